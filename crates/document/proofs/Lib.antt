@@ -1,0 +1,12 @@
+pub mod Tests
+pub mod Counts
+pub mod Levels
+pub mod WellFormed
+pub mod Stability
+pub mod Pushing
+pub mod Shutting
+pub mod Calls
+pub mod Laws
+pub mod Effects
+pub mod Lawful
+pub mod Questions
