@@ -10,3 +10,4 @@ pub mod Laws
 pub mod Effects
 pub mod Lawful
 pub mod Questions
+pub mod Verdicts

@@ -17,7 +17,7 @@ use Rattle.refusal.specs.declared.Ground.{Ground}
 use Rattle.refusal.specs.declared.Ground.the-variants.{BadCapacity, Ended, NotBegun, BadName, TooDeep, Full, OtherName}
 use Rattle.refusal.specs.declared.Refusal.{Refusal}
 use Rattle.refusal.specs.Refusals.{refusal}
-use Rattle.document.specs.Document.{openMark, nodeAt, nameOf, closed, innermost, closedCount, levelOf}
+use Rattle.document.specs.Document.{openMark, nodeAt, nameOf, closed, innermost, closedCount, oneAbove, levelOf}
 
 -- room is how many nodes there is memory for: none, or more than a document may have
 abbrev pub unfit : ℕ → Bool
@@ -76,6 +76,16 @@ firstOf (t ∷ ts) = cond (t .0) (Some (t .1)) (firstOf ts)
 -- the ground on which a call is refused, if it is: the first that holds
 unfoldable pub refused : ℕ → List Node → Call → Option Ground
 refused room ns c = firstOf (grounds room ns c)
+
+-- where no element is open, why a call that needs one is refused
+abbrev pub idle : ℕ → Ground
+idle count = cond (eqb count 0) NotBegun Ended
+
+-- the level of a node that begins now, or why none can: it would lie too deep, or there is no room
+abbrev pub nextLevel : ℕ → List Node → Result ℕ Refusal
+nextLevel room ns =
+    cond (deep ns (innermost ns)) (Err (refusal TooDeep 0))
+    (cond (leb room (length ns)) (Err (refusal Full 0)) (Ok (oneAbove (levelOf ns) (innermost ns))))
 
 abbrev pub orZero : Option ℕ → ℕ
 orZero None = 0

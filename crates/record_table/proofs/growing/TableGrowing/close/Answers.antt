@@ -1,0 +1,64 @@
+use mathlib.Core.Path.{refl, sym, ap, _∙_}
+use Prim.Native.Nat.{ℕ, _+_, _-_}
+use denote.Ref.{now}
+use Rattle.refusal.specs.declared.Ground.the-variants.{BadCapacity, OtherName}
+use Rattle.document.specs.declared.Call.the-variants.{Close}
+use Rattle.document.proofs.Verdicts.{by-capacity}
+use Rattle.record_table.specs.Records.{tableNodes, tableRoom, tableSound}
+use Rattle.record_table.proofs.Looks.{record-within}
+use Rattle.record_table.proofs.Steps.{called-by, memory-by, refused-at, idle-at, has-record, other-named, named, shut}
+use Rattle.record_table.proofs.growing.TableGrowing.close.Needs as need
+
+pub returns-then-unfit : need.returns-then-unfit
+returns-then-unfit c =
+    let t = c .args .self .now in
+    record {
+      called = λ s. refused-at t (Close (c .args .name)) s _ BadCapacity (by-capacity (tableRoom t) (tableNodes t) _ (sym (c .if-unfit .ensures tt))) (c .at .ensures);
+      memory = λ s. refl;
+      lent = refl;
+    }
+
+pub returns-in-rest : need.returns-in-rest
+returns-in-rest c =
+    let t = c .args .self .now in
+    record {
+      called = λ s. idle-at t (Close (c .args .name)) s (sym (c .if-unfit .ensures tt)) refl (c .in-rest .is) _ (c .idle .ensures);
+      memory = λ s. refl;
+      lent = refl;
+    }
+
+pub returns-in-Break-record : need.returns-in-Break-record
+returns-in-Break-record c = record {
+  called = λ s. has-record _ _ _ s (c .in-Some .innermost) (c .in-Some .is) _ (sym (c .record .ensures) ∙ c .in-Break-record .was tt);
+  memory = λ s. has-record _ _ _ s (c .in-Some .innermost) (c .in-Some .is) _ (sym (c .record .ensures) ∙ c .in-Break-record .was tt);
+  lent = refl;
+}
+
+pub returns-then-record-name : need.returns-then-record-name
+returns-then-record-name c =
+    let t = c .args .self .now in
+    record {
+      called = λ s. refused-at t (Close (c .args .name)) s _ OtherName
+          (other-named t s (c .in-Some .innermost) (c .in-Continue-record .record) (c .args .name) (c .in-Some .is) (sym (c .record .ensures) ∙ c .in-Continue-record .was tt)
+          (sym (c .if-unfit .ensures tt)) (c .if-record-name .taken))
+          (c .at-then-record-name .ensures);
+      memory = λ s. refl;
+      lent = refl;
+    }
+
+pub returns : need.returns
+returns c =
+    let t = c .args .self .now in
+    let p = c .in-Some .innermost in
+    let r = c .in-Continue-record .record in
+    let at = sym (c .record .ensures) ∙ c .in-Continue-record .was tt in
+    let w = record-within (now (t .records)) (t .used) p r at in
+    let d = λ (s : tableSound t).
+    shut _ _ _ s p (c .args .name) (c .saturating-sub .result) r
+    (named t s p r (c .args .name) (c .in-Some .is) at (sym (c .if-unfit .ensures tt)) (c .if-record-name .left))
+    (c .in-Some .is) (w .0) (w .2) (c .saturating-sub .ensures ∙ ap (λ (n : ℕ). t .used - (n + 1)) (c .from .ensures)) in
+    record {
+      called = λ s. called-by (d s) refl refl refl refl;
+      memory = λ s. memory-by (d s) refl refl;
+      lent = refl;
+    }
