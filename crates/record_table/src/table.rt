@@ -10,6 +10,7 @@ ghost use Rattle.refusal.specs.Refusals.{refusal};
 ghost use Rattle.document.specs.Document.{oneAbove, levelOf, innermost as innermostOf};
 ghost use Rattle.document.specs.Calls.{unfit as unfitOf, ended as endedOf, idle as idleOf, nextLevel};
 ghost use Rattle.record_table.specs.Records.{recordAt, tableNodes, tableSound, tableRoom};
+use document::Kind;
 use document::Node;
 use document::NodeDebug;
 use document::NodeEq;
@@ -22,6 +23,19 @@ use refusal::Refusal;
 pub struct Record {
     pub node: Node,
     pub level: u8,
+}
+
+impl Record {
+    // Memory to begin with; a table may begin over any other content too.
+    pub const BLANK: Record = Record {
+        node: Node {
+            parent: None,
+            kind: Kind::Element,
+            name: 0,
+            end: 0,
+        },
+        level: 0,
+    };
 }
 
 // The records of the nodes stand first, in the order in which the nodes began.
