@@ -7,6 +7,7 @@ use Prim.Native.Nat.{ℕ, zero, suc, _+_, _≤_, _<_}
 use native.Mathlib.Omega.{arith}
 use lib.Dec.{ltb}
 use lib.ListN.{length}
+use Rattle.std.specs.declared.option.Option.{Option}
 use Rattle.std.specs.declared.option.Option.the-variants.{Some, None}
 use Rattle.std.specs.declared.result.Result.{Result}
 use Rattle.std.specs.declared.result.Result.the-variants.{Ok, Err}
@@ -18,6 +19,7 @@ use Rattle.document.specs.declared.Node.{Node}
 use Rattle.document.specs.Document.{asked, counted, isOpen, nodeAt, innermost, closedCount, openCount, levelOf}
 use Rattle.document.specs.Laws.{WellFormed}
 use Rattle.document.proofs.Tests.{impossible}
+use Rattle.document.proofs.WellFormed.{inner}
 
 module _ {X : Type 0} (ns : List Node) (n : ℕ) (f : ℕ → X) where
   pub asked-at : n < length ns → asked ns n f ≡ Ok (f n)
@@ -47,8 +49,13 @@ both-counted f (suc n) = go (f n) (both-counted f n)
 open-and-closed : (ns : List Node) → openCount ns + closedCount ns ≡ length ns
 open-and-closed ns = both-counted (λ n. isOpen (nodeAt ns n)) (length ns)
 
-pub none-open : (ns : List Node) → WellFormed ns → innermost ns ≡ None → openCount ns ≡ 0
-none-open ns w e = omega (arith, open-and-closed ns, w .all-closed e)
+-- what the innermost open element tells, where o is it
+module _ (ns : List Node) (w : WellFormed ns) (o : Option ℕ) (is : o ≡ innermost ns) where
+  pub none-open : o ≡ None → openCount ns ≡ 0
+  none-open e = omega (arith, open-and-closed ns, w .all-closed (sym is ∙ e))
 
-pub some-open : (ns : List Node) (p : ℕ) → WellFormed ns → innermost ns ≡ Some p → openCount ns ≡ levelOf ns p + 1
-some-open ns p w e = omega (arith, open-and-closed ns, w .open-count p e)
+  pub some-open : (p level : ℕ) → o ≡ Some p → (x : Result ℕ Refusal) → x ≡ asked ns p (levelOf ns) → x ≡ Ok level → level + 1 ≡ openCount ns
+  some-open p level e x a h = omega (arith, open-and-closed ns, w .open-count p (sym is ∙ e), asked-ok ns p (levelOf ns) level (sym a ∙ h))
+
+  pub open-asked : {A : Type 0} (p : ℕ) → o ≡ Some p → (x : Result ℕ Refusal) → x ≡ asked ns p (levelOf ns) → (r : Refusal) → x ≡ Err r → A
+  open-asked p e x a r h = absurd (omega (arith, inner ns p (sym is ∙ e) .there, asked-err ns p (levelOf ns) r (sym a ∙ h)))

@@ -23,6 +23,11 @@ use Rattle.feed.specs.Records.{encoded, byCode, decoded}
 abbrev pub Bytes : List ℕ → Type 0
 Bytes bs = (i : ℕ) → getD bs i 0 < 256
 
+pub four : (c : Call) → length (encoded c) ≡ 4
+four (Open n) = refl
+four Text = refl
+four (Close n) = refl
+
 -- what a code and a name number say of a call
 abbrev pub Says : ℕ → ℕ → Call → Type 0
 Says code name (Open n) = (code ≡ 1) × (name ≡ n)
@@ -82,7 +87,7 @@ to-encoded x y a b Text l (p, q) z =
     rw (p, z, la, lb) refl
 to-encoded x y a b (Close n) l (p, q) z = rw (p, z, ← q, low-byte a b l, high-byte a b l) refl
 
-decoded-encoded : (c : Call) → decoded (encoded c) ≡ Some c
+pub decoded-encoded : (c : Call) → decoded (encoded c) ≡ Some c
 decoded-encoded (Open n) = ap (λ (m : ℕ). Some (Open m)) (both-bytes n)
 decoded-encoded Text = refl
 decoded-encoded (Close n) = ap (λ (m : ℕ). Some (Close m)) (both-bytes n)

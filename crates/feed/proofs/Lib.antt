@@ -1,3 +1,4 @@
 pub mod Exact
 pub mod Probing
 pub mod Progress
+pub mod Once

@@ -17,11 +17,16 @@ use Rattle.refusal.specs.declared.Refusal.{Refusal}
 use Rattle.refusal.specs.Refusals.{refusal}
 use Rattle.document.specs.declared.Node.{Node}
 use Rattle.document.specs.declared.Call.{Call}
-use Rattle.document.specs.Calls.{unfit, answered, after, run}
+use Rattle.document.specs.declared.Call.the-variants as call
+use Rattle.document.specs.Document.{closedCount}
+use Rattle.document.specs.Calls.{unfit, answered, accepted, after, run}
+use Rattle.document.specs.Laws.{WellFormed, Leaves}
 use Rattle.document.proofs.Tests.{impossible}
-use Rattle.document.proofs.Effects.{answered-err, refused-after}
+use Rattle.document.proofs.WellFormed.{closed-few}
+use Rattle.document.proofs.Calls.{calls-next, runs-stable}
+use Rattle.document.proofs.Effects.{calls-effect, answered-err, refused-after}
 use Rattle.feed.specs.Records.{encoded, decoded}
-use Rattle.feed.specs.Feeds.{answeredBy, afterBy, recordAnswered, Recorded, encodedAll, Accepted, Read, Read-into, Fed-to}
+use Rattle.feed.specs.Feeds.{answeredBy, afterBy, recordAnswered, Recorded, encodedAll, Accepted, Read, Fed-to}
 use Rattle.feed.proofs.Exact.{Bytes, exact}
 
 bytes-left : (xs ys : List ℕ) → Bytes (xs ++ ys) → Bytes xs
@@ -57,7 +62,7 @@ called room ns i bs n e = go (decoded bs) refl e
     go None d h = absurd (bad (unfit room) h)
     go (Some c) d h = (c, d, h)
 
-pub read-none : (room : ℕ) (ns : List Node) (bs rest : List ℕ) → rest ≡ bs → Read room ns bs 0 rest ns
+read-none : (room : ℕ) (ns : List Node) (bs rest : List ℕ) → rest ≡ bs → Read room ns bs 0 rest ns
 read-none room ns bs rest e = record { calls = []; split = sym e; counted = refl; accepted = tt; leaves = refl }
 
 read-more : {room : ℕ} {ns new new′ : List Node} {bs rest tail : List ℕ} {count : ℕ} → Bytes bs → Read room ns bs count rest new
@@ -95,27 +100,74 @@ refused-record room ns i bs e h = go (decoded bs) h
     go None k = refl
     go (Some c) k = let a = answered-err room ns c e k in refused-after room ns c (a .0) (a .1)
 
+-- an accepted call begins a node or closes one, or both
+counts-up : (room : ℕ) (ns : List Node) (c : Call) (n : ℕ) → WellFormed ns → answered room ns c ≡ Ok n
+    → length ns + closedCount ns < length (after room ns c) + closedCount (after room ns c)
+counts-up room ns c n w e =
+    let o = calls-effect room ns c w .on-ok n e in
+    subst (λ (ms : List Node). length ns + closedCount ns < length ms + closedCount ms) (sym (o .0)) (go c (o .1))
+  where
+    go : (d : Call) → Leaves ns d n → length ns + closedCount ns < length (accepted ns d) + closedCount (accepted ns d)
+    go (call.Open name) l = omega (arith, l .1 .node-count, l .1 .end-count)
+    go call.Text l = omega (arith, l .1 .node-count, l .1 .end-count)
+    go (call.Close name) l = omega (arith, l .2 .node-count, l .2 .end-count)
+
+few-calls : (room : ℕ) (ns : List Node) (cs : List Call) → WellFormed ns → Accepted room ns cs
+    → length cs + length ns + closedCount ns ≤ length (run room ns cs) + closedCount (run room ns cs)
+few-calls room ns [] w a = omega arith
+few-calls room ns (c ∷ cs) w a =
+    let up = counts-up room ns c (a .0 .0) w (a .0 .1) in
+    let rest = few-calls room (after room ns c) cs (calls-next room ns c w .well) (a .1) in
+    omega arith
+
+pub read-few : {room : ℕ} {ns new : List Node} {bs rest : List ℕ} {count : ℕ} → WellFormed ns → Read room ns bs count rest new → count ≤ 8192
+read-few {room} {ns} w r =
+    let new = run room ns (r .calls) in
+    let end = runs-stable room ns (r .calls) w .1 in
+    omega (arith, few-calls room ns (r .calls) w (r .accepted), r .counted, closed-few new, end .bounded)
+
+-- what stands at the start of a turn, of any make
+pub record So-far {S : Type 0} (nodes : S → List Node) (sound : S → Type 0) (room : S → ℕ) (was : S) (bs : List ℕ) (count : ℕ) (rest : List ℕ) (is : S) : Type 0 where
+  pub read : Read (room was) (nodes was) bs count rest (nodes is)
+  pub same-room : room is ≡ room was
+  pub still-sound : sound is
+
+pub starts : {S : Type 0} {nodes : S → List Node} {sound : S → Type 0} {room : S → ℕ} {was : S} {bs rest : List ℕ} → rest ≡ bs → sound was
+    → So-far nodes sound room was bs 0 rest was
+starts e s = record { read = read-none _ _ _ _ e; same-room = refl; still-sound = s }
+
+pub finishes : {S : Type 0} {nodes : S → List Node} {sound : S → Type 0} {room : S → ℕ} {was is : S} {bs rest : List ℕ} {count : ℕ} → WellFormed (nodes was)
+    → So-far nodes sound room was bs count rest is → length rest ≡ 0 → Fed-to nodes sound room was bs count None is
+finishes w f l = record {
+  feeds = record { rest = _; read = f .read; ended = nil-from-length _ l };
+  few = read-few w (f .read);
+  same-room = f .same-room;
+  still-sound = f .still-sound;
+}
+
 module _ {S : Type 0} {nodes : S → List Node} {sound : S → Type 0} {room : S → ℕ} {was is new : S} {bs rest : List ℕ} {count : ℕ} {r : Result ℕ Refusal}
-    (bytes : Bytes bs) (f : Read-into nodes sound room was bs count rest is) (part : List ℕ) (d : Recorded nodes sound room is count part r new) where
+    (f : So-far nodes sound room was bs count rest is) (part tail : List ℕ) (cut : rest ≡ part ++ tail) (d : Recorded nodes sound room is count part r new) where
   answer : recordAnswered (room was) (nodes is) count part ≡ r
   answer = ap (λ (m : ℕ). recordAnswered m (nodes is) count part) (sym (f .same-room)) ∙ sym (d .answer)
 
   leaves : nodes new ≡ afterBy (room was) (nodes is) (decoded part)
   leaves = d .leaves ∙ ap (λ (m : ℕ). afterBy m (nodes is) (decoded part)) (f .same-room)
 
-  pub goes-on : (tail : List ℕ) → rest ≡ part ++ tail → (n : ℕ) → r ≡ Ok n → Read-into nodes sound room was bs (count + 1) tail new
-  goes-on tail e n h = record {
-    read = read-more bytes (f .read) part e n (answer ∙ h) leaves;
+  pub goes-on : Bytes bs → (n : ℕ) → r ≡ Ok n → So-far nodes sound room was bs (count + 1) tail new
+  goes-on bytes n h = record {
+    read = read-more bytes (f .read) part cut n (answer ∙ h) leaves;
     same-room = d .same-room ∙ f .same-room;
     still-sound = d .still-sound;
   }
 
-  pub stops : (tail : List ℕ) → rest ≡ part ++ tail → length part ≡ min 4 (length rest) → 0 < length rest → (e : Refusal) → r ≡ Err e
+  pub stops : WellFormed (nodes was) → length part ≡ min 4 (length rest) → 0 < length rest → (e : Refusal) → r ≡ Err e
       → Fed-to nodes sound room was bs count (Some e) new
-  stops tail e l some x h =
+  stops w l some x h =
       let same : nodes new ≡ nodes is = leaves ∙ refused-record (room was) (nodes is) count part x (answer ∙ h) in
+      let read : Read (room was) (nodes was) bs count rest (nodes new) = rw same (f .read) in
       record {
-        rest = rest;
-        front = record { read = rw same (f .read); same-room = d .same-room ∙ f .same-room; still-sound = d .still-sound };
-        ended = (some, rw (same, next-record rest part tail e l) (answer ∙ h));
+        feeds = record { rest = rest; read = read; ended = (some, rw (same, next-record rest part tail cut l) (answer ∙ h)) };
+        few = read-few w read;
+        same-room = d .same-room ∙ f .same-room;
+        still-sound = d .still-sound;
       }

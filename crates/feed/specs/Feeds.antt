@@ -2,7 +2,7 @@
 use mathlib.Core.Path.{_≡_}
 use mathlib.Core.Bool.{Bool, cond}
 use mathlib.Core.List.{List, [], _∷_, _++_}
-use Prim.Native.Nat.{ℕ, _<_}
+use Prim.Native.Nat.{ℕ, _≤_, _<_}
 use lib.ListN.{length, take}
 use Rattle.std.specs.declared.option.Option.{Option}
 use Rattle.std.specs.declared.option.Option.the-variants.{Some, None}
@@ -59,19 +59,25 @@ pub record Read (room : ℕ) (ns : List Node) (bs : List ℕ) (count : ℕ) (res
   pub accepted : Accepted room ns calls
   pub leaves : new ≡ run room ns calls
 
--- The beginning of a feed read into a value of some make.
-pub record Read-into {S : Type 0} (nodes : S → List Node) (sound : S → Type 0) (room : S → ℕ) (was : S) (bs : List ℕ) (count : ℕ) (rest : List ℕ) (is : S) : Type 0 where
-  pub read : Read (room was) (nodes was) bs count rest (nodes is)
-  pub same-room : room is ≡ room was
-  pub still-sound : sound is
-
 -- why reading ended at record i, with these bytes left: there are none, or the record is refused
 abbrev pub Ended : ℕ → List Node → ℕ → List ℕ → Option Refusal → Type 0
 Ended room ns i rest None = rest ≡ []
 Ended room ns i rest (Some e) = (0 < length rest) × (recordAnswered room ns i (take 4 rest) ≡ Err e)
 
--- A feed read to its end or to the first record that is refused.
-pub record Fed-to {S : Type 0} (nodes : S → List Node) (sound : S → Type 0) (room : S → ℕ) (was : S) (bs : List ℕ) (count : ℕ) (stop : Option Refusal) (is : S) : Type 0 where
+-- The bytes are read to their end or to the first record that is refused: count records are accepted, stop is the refusal, new what the records leave.
+pub record Feeds (room : ℕ) (ns : List Node) (bs : List ℕ) (count : ℕ) (stop : Option Refusal) (new : List Node) : Type 0 where
   pub rest : List ℕ
-  pub front : Read-into nodes sound room was bs count rest is
-  pub ended : Ended (room was) (nodes is) count rest stop
+  pub read : Read room ns bs count rest new
+  pub ended : Ended room new count rest stop
+
+-- Bytes and a document leave one answer and one document.
+abbrev pub Feeds-once : Type 0
+Feeds-once = (room : ℕ) (ns : List Node) (bs : List ℕ) (count count′ : ℕ) (stop stop′ : Option Refusal) (new new′ : List Node)
+    → Feeds room ns bs count stop new → Feeds room ns bs count′ stop′ new′ → (count ≡ count′) × (stop ≡ stop′) × (new ≡ new′)
+
+-- A feed read into a value of some make. A document has at most 4,096 nodes, each with at most two records.
+pub record Fed-to {S : Type 0} (nodes : S → List Node) (sound : S → Type 0) (room : S → ℕ) (was : S) (bs : List ℕ) (count : ℕ) (stop : Option Refusal) (is : S) : Type 0 where
+  pub feeds : Feeds (room was) (nodes was) bs count stop (nodes is)
+  pub few : count ≤ 8192
+  pub same-room : room is ≡ room was
+  pub still-sound : sound is

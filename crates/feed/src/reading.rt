@@ -1,7 +1,5 @@
 // Records read into a document, whatever memory it is kept in.
-ghost use mathlib.Core.Path.{_≡_};
-ghost use Rattle.document.specs.Calls.{unfit as unfitOf};
-ghost use Rattle.feed.specs.Feeds.{Probed, Recorded, Fed-to};
+ghost use Rattle.feed.specs.Feeds.{Probed, Recorded, Fed-to, Feeds-once};
 use super::records::RECORD_BYTES;
 use super::records::decode;
 use document::Growing;
@@ -62,4 +60,11 @@ pub fn feed<D: Growing>(document: &mut D, bytes: &[u8]) -> Fed
         records,
         stop: None,
     }
+}
+
+// A feed has one outcome.
+pub fn feeds_stand() -> u8
+    ensures { λ _. ⌜ Feeds-once ⌝ }
+{
+    0
 }

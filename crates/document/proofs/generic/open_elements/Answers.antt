@@ -1,24 +1,17 @@
-use mathlib.Core.Path.{sym, _∙_}
-use native.Mathlib.Omega.{arith}
-use Rattle.document.specs.Document.{levelOf}
+use mathlib.Core.Path.{sym, ap, _∙_}
+use Prim.Native.Nat.{ℕ, _+_}
 use Rattle.document.proofs.Calls.{grown-well}
-use Rattle.document.proofs.WellFormed.{inner}
-use Rattle.document.proofs.Questions.{asked-ok, asked-err, none-open, some-open}
+use Rattle.document.proofs.Questions.{none-open, some-open, open-asked}
 use Rattle.document.proofs.generic.open_elements.Needs as need
 
 pub returns-in-rest : need.returns-in-rest
-returns-in-rest g c = λ s. sym (none-open _ (grown-well _ (g .D·Readable .grown _ s)) (sym (c .innermost .ensures s) ∙ c .in-rest .is))
+returns-in-rest g c = λ s. sym (none-open _ (grown-well _ (g .D·Readable .grown _ s)) _ (c .innermost .ensures s) (c .in-rest .is))
 
 pub returns-in-Ok : need.returns-in-Ok
 returns-in-Ok g c = λ s.
-    let ns = g .D·Readable .nodes (c .args .document .now) in
-    let open-is = some-open ns (c .in-Some .innermost) (grown-well ns (g .D·Readable .grown _ s)) (sym (c .innermost .ensures s) ∙ c .in-Some .is) in
-    let level-is = asked-ok ns (c .in-Some .innermost) (levelOf ns) (c .in-Ok .level) (sym (c .level .ensures s) ∙ c .in-Ok .is) in
-    omega (arith, c .from .ensures)
+    ap (λ (n : ℕ). n + 1) (c .from .ensures)
+    ∙ some-open _ (grown-well _ (g .D·Readable .grown _ s)) _ (c .innermost .ensures s) (c .in-Some .innermost) _ (c .in-Some .is) _ (c .level .ensures s) (c .in-Ok .is)
 
 pub returns-in-Err : need.returns-in-Err
 returns-in-Err g c = λ s.
-    let ns = g .D·Readable .nodes (c .args .document .now) in
-    let there = inner ns (c .in-Some .innermost) (sym (c .innermost .ensures s) ∙ c .in-Some .is) .there in
-    let past = asked-err ns (c .in-Some .innermost) (levelOf ns) (c .in-Err .field-0) (sym (c .level .ensures s) ∙ c .in-Err .is) in
-    absurd (omega arith)
+    open-asked _ (grown-well _ (g .D·Readable .grown _ s)) _ (c .innermost .ensures s) (c .in-Some .innermost) (c .in-Some .is) _ (c .level .ensures s) _ (c .in-Err .is)
