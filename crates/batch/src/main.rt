@@ -36,9 +36,9 @@ fn run(rt: &LibcRuntime) -> Result<(), Failure> {
         println!(rt, "{USAGE}")?;
         return Ok(());
     };
-    match command.as_str() {
-        "help" => println!(rt, "{USAGE}")?,
-        "show" => show::show(rt)?,
+    match (command.as_str(), args.len()) {
+        ("help", 2) => println!(rt, "{USAGE}")?,
+        ("show", 2) => show::show(rt)?,
         _ => return Err(Failure::Usage),
     }
     Ok(())

@@ -22,7 +22,7 @@ use Rattle.refusal.specs.declared.Refusal.{Refusal}
 use Rattle.refusal.specs.Refusals.{refusal}
 use Rattle.document.specs.declared.Node.{Node}
 use Rattle.document.specs.declared.Call.{Call}
-use Rattle.document.specs.Document.{nowhere, nodeAt, nameOf, parentOf, innermost, closedCount, oneAbove, levelOf}
+use Rattle.document.specs.Document.{asked, nowhere, nodeAt, nameOf, parentOf, innermost, closedCount, oneAbove, levelOf}
 use Rattle.std.specs.Options.{isSome}
 use Rattle.document.specs.Calls.{orZero, unfit, ended, early, mismatched, idle, adds, refused, target, verdict, accepted, after, withEnd, element, text, Grown, more, Called}
 use Rattle.document.specs.Laws.{WellFormed}
@@ -30,11 +30,12 @@ use Rattle.document.proofs.Calls.{grown-well, calls-next}
 use Rattle.document.proofs.Effects.{accepted-after, open-counts, text-counts, close-counts, open-level, text-level}
 use Rattle.document.proofs.Verdicts.{by-other-name, passes-close, going-on, has-nodes, all-ended, not-ended, idle-refused, refuses}
 use Rattle.document.proofs.WellFormed.{inner}
+use Rattle.document.proofs.Questions.{asked-ok, asked-err}
 use Rattle.document.specs.declared.Call.the-variants as call
 use Rattle.record_table.specs.declared.table.Record.{Record}
 use Rattle.record_table.specs.declared.table.RecordTable.{RecordTable}
-use Rattle.record_table.specs.Records.{blank, nodesOf, recordOf, recordAt, written, Sound, tableNodes, tableSound, tableRoom, tableWritten}
-use Rattle.record_table.proofs.Looks.{length-nodes, node-at, record-within, record-past}
+use Rattle.record_table.specs.Records.{blank, nodesOf, recordOf, written, Sound, tableNodes, tableSound, tableRoom, tableWritten}
+use Rattle.record_table.proofs.Looks.{length-nodes, node-at}
 
 none-when : (o : Option ℕ) → isSome o ≡ false → o ≡ None
 none-when None e = refl
@@ -124,6 +125,9 @@ module _ (rs : List Record) (used : ℕ) (at : Option ℕ) (s : Sound rs used at
         memory = rw (after-is, ← here, ← lev) refl;
       }
 
+  there : (p : ℕ) → at ≡ Some p → p < used
+  there p e = omega (arith, inner (nodesOf rs used) p (sym (s .inner-is) ∙ e) .there, size)
+
   -- the level of a node that begins now, and the ends given so far, make its number
   new-level : closedCount (nodesOf rs used) + oneAbove (levelOf (nodesOf rs used)) (innermost (nodesOf rs used)) ≡ used
   new-level = go (innermost (nodesOf rs used)) refl
@@ -164,13 +168,14 @@ module _ (rs : List Record) (used : ℕ) (at : Option ℕ) (s : Sound rs used at
       (level-here (accepted (nodesOf rs used) c) level v (text-level (length rs) (nodesOf rs used) well e))
       (s .inner-is ∙ sym (text-counts (length rs) (nodesOf rs used) well e .innermost-is))
 
-  pub shut : (p name end : ℕ) (r : Record) → refused (length rs) (nodesOf rs used) (call.Close name) ≡ None → at ≡ Some p → p < used → r ≡ getD rs p blank
+  pub shut : (p name end : ℕ) (r : Record) → refused (length rs) (nodesOf rs used) (call.Close name) ≡ None → at ≡ Some p → recordOf (nodesOf rs used) p ≡ r
       → end ≡ used - (r .level + 1)
       → Done rs used (call.Close name) (Ok p) (set rs p (record { node = withEnd (getD rs p blank .node) end; level = getD rs p blank .level })) used (r .node .parent)
-  shut p name end r e q l here d =
+  shut p name end r e q is d =
       let c = call.Close name in
       let i : innermost (nodesOf rs used) ≡ Some p = sym (s .inner-is) ∙ q in
-      let level-is : r .level ≡ levelOf (nodesOf rs used) p = ap (λ (y : Record). y .level) here ∙ s .levels p l in
+      let l : p < used = there p q in
+      let level-is : levelOf (nodesOf rs used) p ≡ r .level = ap (λ (y : Record). y .level) is in
       let n : end ≡ closedCount (nodesOf rs used) = omega (arith, well .open-count p i, size) in
       let node-is : nodeAt (nodesOf rs used) p ≡ getD rs p blank .node = node-at rs used p (s .fits) l in
       let x : withEnd (getD rs p blank .node) end ≡ withEnd (nodeAt (nodesOf rs used) p) (closedCount (nodesOf rs used)) = rw (node-is, n) refl in
@@ -182,9 +187,7 @@ module _ (rs : List Record) (used : ℕ) (at : Option ℕ) (s : Sound rs used at
       (nodes-set p _ l ∙ ap (set (nodesOf rs used) p) x ∙ new)
       (x ∙ sym (getD-set-same (nodesOf rs used) p _ nowhere (omega (arith, size))) ∙ ap (λ (ms : List Node). nodeAt ms p) new)
       (s .levels p l ∙ sym kept)
-      (ap (λ (y : Record). y .node .parent) here
-      ∙ ap (λ (y : Node). y .parent) (sym node-is)
-      ∙ sym (close-counts (length rs) (nodesOf rs used) well name p i .innermost-is))
+      (ap (λ (y : Record). y .node .parent) (sym is) ∙ sym (close-counts (length rs) (nodesOf rs used) well name p i .innermost-is))
 
   pub ended-none : isSome at ≡ false → ltb 0 used ≡ ended (nodesOf rs used)
   ended-none e = elim (cases-lt 0 used) [
@@ -195,33 +198,28 @@ module _ (rs : List Record) (used : ℕ) (at : Option ℕ) (s : Sound rs used at
   pub ended-some : isSome at ≡ true → ended (nodesOf rs used) ≡ false
   ended-some e = let p = some-when at e in going-on (nodesOf rs used) well (p .0) (sym (s .inner-is) ∙ p .1)
 
-  pub there : (p : ℕ) → at ≡ Some p → p < used
-  there p e = omega (arith, inner (nodesOf rs used) p (sym (s .inner-is) ∙ e) .there, size)
-
-  pub has-record : {A : Type 0} (p : ℕ) → at ≡ Some p → (e : Refusal) → recordAt rs used p ≡ Err e → A
-  has-record p q e r = absurd (omega (arith, there p q, record-past rs used p e (s .fits) r))
+  pub has-record : {A : Type 0} (p : ℕ) → at ≡ Some p → (e : Refusal) → asked (nodesOf rs used) p (recordOf (nodesOf rs used)) ≡ Err e → A
+  has-record p q e r = absurd (omega (arith, there p q, size, asked-err (nodesOf rs used) p (recordOf (nodesOf rs used)) e r))
 
   pub level-none : at ≡ None → 0 ≡ oneAbove (levelOf (nodesOf rs used)) (innermost (nodesOf rs used))
   level-none e = rw (← s .inner-is, e) refl
 
-  pub level-some : (p : ℕ) (r : Record) (level : ℕ) → at ≡ Some p → recordAt rs used p ≡ Ok r → level ≡ min (r .level + 1) 255
+  pub level-some : (p : ℕ) (r : Record) (level : ℕ) → at ≡ Some p → asked (nodesOf rs used) p (recordOf (nodesOf rs used)) ≡ Ok r → level ≡ min (r .level + 1) 255
       → level ≡ oneAbove (levelOf (nodesOf rs used)) (innermost (nodesOf rs used))
   level-some p r level q e m =
-      let w = record-within rs used p r e in
-      let v : r .level ≡ levelOf (nodesOf rs used) p = ap (λ (y : Record). y .level) (w .2) ∙ s .levels p (w .0) in
-      let low = well .shallow p (omega (arith, size, w .0)) in
+      let found = asked-ok (nodesOf rs used) p (recordOf (nodesOf rs used)) r e in
+      let is : levelOf (nodesOf rs used) p ≡ r .level = ap (λ (y : Record). y .level) (found .1) in
+      let low = well .shallow p (found .0) in
       rw (← s .inner-is, q) (omega arith)
 
 -- the name of the innermost open element decides a close
-module _ (t : RecordTable) (s : tableSound t) (p : ℕ) (r : Record) (name : ℕ) (i : t .innermost ≡ Some p) (e : recordAt (now (t .records)) (t .used) p ≡ Ok r)
+module _ (t : RecordTable) (s : tableSound t) (p : ℕ) (r : Record) (name : ℕ) (i : t .innermost ≡ Some p) (is : recordOf (tableNodes t) p ≡ r)
     (fit : unfit (tableRoom t) ≡ false) where
   inner-at : innermost (tableNodes t) ≡ Some p
   inner-at = sym (s .inner-is) ∙ i
 
   name-is : nameOf (tableNodes t) p ≡ r .node .name
-  name-is =
-      let w = record-within (now (t .records)) (t .used) p r e in
-      ap (λ (x : Node). x .name) (node-at (now (t .records)) (t .used) p (s .fits) (w .0)) ∙ ap (λ (x : Record). x .node .name) (sym (w .2))
+  name-is = ap (λ (x : Record). x .node .name) is
 
   mismatched-is : (b : Bool) → eqb (r .node .name) name ≡ b → mismatched (tableNodes t) (call.Close name) ≡ not b
   mismatched-is b h = rw (inner-at, name-is, h) refl

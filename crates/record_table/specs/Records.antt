@@ -1,17 +1,13 @@
 -- The nodes that a table's records stand for, what a table keeps, and which record a call writes.
 use mathlib.Core.Path.{_≡_}
-use mathlib.Core.Bool.{cond, _&&_}
 use mathlib.Core.List.{List, map}
 use Prim.Native.Nat.{ℕ, _≤_, _<_}
 use denote.Ref.{now}
-use lib.Dec.{ltb}
 use lib.ListN.{length, getD, set, take}
 use Rattle.std.specs.declared.option.Option.{Option}
 use Rattle.std.specs.declared.result.Result.{Result}
 use Rattle.std.specs.declared.result.Result.the-variants.{Ok, Err}
-use Rattle.refusal.specs.declared.Ground.the-variants.{NoNode}
 use Rattle.refusal.specs.declared.Refusal.{Refusal}
-use Rattle.refusal.specs.Refusals.{refusal}
 use Rattle.document.specs.declared.Node.{Node}
 use Rattle.document.specs.declared.Call.{Call}
 use Rattle.document.specs.Document.{nowhere, nodeAt, levelOf, innermost}
@@ -22,10 +18,6 @@ use Rattle.record_table.specs.declared.table.RecordTable.{RecordTable}
 -- what stands past the last record
 abbrev pub blank : Record
 blank = record { node = nowhere; level = 0 }
-
--- what a look at record n answers, where the first records are in use
-abbrev pub recordAt : List Record → ℕ → ℕ → Result Record Refusal
-recordAt rs used n = cond (ltb n used && ltb n (length rs)) (Ok (getD rs n blank)) (Err (refusal NoNode n))
 
 -- the nodes of the records in use
 abbrev pub nodesOf : List Record → ℕ → List Node

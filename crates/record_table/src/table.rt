@@ -7,9 +7,9 @@ ghost use denote.Ref.{name as loan};
 ghost use lib.ListN.{set};
 ghost use Rattle.std.specs.Results.{isOk};
 ghost use Rattle.refusal.specs.Refusals.{refusal};
-ghost use Rattle.document.specs.Document.{oneAbove, levelOf, innermost as innermostOf};
+ghost use Rattle.document.specs.Document.{asked, oneAbove, levelOf, innermost as innermostOf};
 ghost use Rattle.document.specs.Calls.{unfit as unfitOf, ended as endedOf, idle as idleOf, nextLevel};
-ghost use Rattle.record_table.specs.Records.{recordAt, tableNodes, tableSound, tableRoom};
+ghost use Rattle.record_table.specs.Records.{recordOf, tableNodes, tableSound, tableRoom};
 use document::Kind;
 use document::Node;
 use document::NodeDebug;
@@ -63,7 +63,8 @@ impl<'a> RecordTable<'a> {
 
     // The record of a node.
     pub(crate) fn record(&self, node: u32) -> Result<Record, Refusal>
-        ensures { λ r. ⌜ r ≡ recordAt (now (now (self .entry) .records)) (now (self .entry) .used) node ⌝ }
+        ensures value { λ r. ⌜ (tableSound (now (self .entry)) → r ≡ asked (tableNodes (now (self .entry))) node (recordOf (tableNodes (now (self .entry))))) ⌝ }
+        ensures within { λ r. ⌜ (isOk r ≡ true → node < tableRoom (now (self .entry))) ⌝ }
     {
         if node < self.used && (node as usize) < self.records.len() {
             Ok(self.records[node as usize])

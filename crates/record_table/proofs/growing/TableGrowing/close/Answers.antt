@@ -1,11 +1,10 @@
 use mathlib.Core.Path.{refl, sym, ap, _∙_}
-use Prim.Native.Nat.{ℕ, _+_, _-_}
-use denote.Ref.{now}
+use native.Mathlib.Omega.{arith}
 use Rattle.refusal.specs.declared.Ground.the-variants.{BadCapacity, OtherName}
 use Rattle.document.specs.declared.Call.the-variants.{Close}
+use Rattle.document.proofs.Questions.{asked-ok}
 use Rattle.document.proofs.Verdicts.{by-capacity}
-use Rattle.record_table.specs.Records.{tableNodes, tableRoom, tableSound}
-use Rattle.record_table.proofs.Looks.{record-within}
+use Rattle.record_table.specs.Records.{recordOf, tableNodes, tableRoom, tableSound}
 use Rattle.record_table.proofs.Steps.{called-by, memory-by, refused-at, idle-at, has-record, other-named, named, shut}
 use Rattle.record_table.proofs.growing.TableGrowing.close.Needs as need
 
@@ -29,18 +28,21 @@ returns-in-rest c =
 
 pub returns-in-Break-record : need.returns-in-Break-record
 returns-in-Break-record c = record {
-  called = λ s. has-record _ _ _ s (c .in-Some .innermost) (c .in-Some .is) _ (sym (c .record .ensures) ∙ c .in-Break-record .was tt);
-  memory = λ s. has-record _ _ _ s (c .in-Some .innermost) (c .in-Some .is) _ (sym (c .record .ensures) ∙ c .in-Break-record .was tt);
+  called = λ s. has-record _ _ _ s (c .in-Some .innermost) (c .in-Some .is) _ (sym (c .record .ensures .value s) ∙ c .in-Break-record .was tt);
+  memory = λ s. has-record _ _ _ s (c .in-Some .innermost) (c .in-Some .is) _ (sym (c .record .ensures .value s) ∙ c .in-Break-record .was tt);
   lent = refl;
 }
 
 pub returns-then-record-name : need.returns-then-record-name
 returns-then-record-name c =
     let t = c .args .self .now in
+    let p = c .in-Some .innermost in
+    let r = c .in-Continue-record .record in
     record {
-      called = λ s. refused-at t (Close (c .args .name)) s _ OtherName
-          (other-named t s (c .in-Some .innermost) (c .in-Continue-record .record) (c .args .name) (c .in-Some .is) (sym (c .record .ensures) ∙ c .in-Continue-record .was tt)
-          (sym (c .if-unfit .ensures tt)) (c .if-record-name .taken))
+      called = λ s.
+          let found = asked-ok (tableNodes t) p (recordOf (tableNodes t)) r (sym (c .record .ensures .value s) ∙ c .in-Continue-record .was tt) in
+          refused-at t (Close (c .args .name)) s _ OtherName
+          (other-named t s p r (c .args .name) (c .in-Some .is) (found .1) (sym (c .if-unfit .ensures tt)) (c .if-record-name .taken))
           (c .at-then-record-name .ensures);
       memory = λ s. refl;
       lent = refl;
@@ -51,12 +53,11 @@ returns c =
     let t = c .args .self .now in
     let p = c .in-Some .innermost in
     let r = c .in-Continue-record .record in
-    let at = sym (c .record .ensures) ∙ c .in-Continue-record .was tt in
-    let w = record-within (now (t .records)) (t .used) p r at in
     let d = λ (s : tableSound t).
+    let found = asked-ok (tableNodes t) p (recordOf (tableNodes t)) r (sym (c .record .ensures .value s) ∙ c .in-Continue-record .was tt) in
     shut _ _ _ s p (c .args .name) (c .saturating-sub .result) r
-    (named t s p r (c .args .name) (c .in-Some .is) at (sym (c .if-unfit .ensures tt)) (c .if-record-name .left))
-    (c .in-Some .is) (w .0) (w .2) (c .saturating-sub .ensures ∙ ap (λ (n : ℕ). t .used - (n + 1)) (c .from .ensures)) in
+    (named t s p r (c .args .name) (c .in-Some .is) (found .1) (sym (c .if-unfit .ensures tt)) (c .if-record-name .left))
+    (c .in-Some .is) (found .1) (omega (arith, c .saturating-sub .ensures, c .from .ensures)) in
     record {
       called = λ s. called-by (d s) refl refl refl refl;
       memory = λ s. memory-by (d s) refl refl;

@@ -1,5 +1,5 @@
 use mathlib.Core.Path.{refl, sym, ap, _∙_}
-use Prim.Native.Nat.{ℕ, _-_}
+use native.Mathlib.Omega.{arith}
 use Rattle.std.proofs.shelf.Results.{err-from-errBy}
 use Rattle.std.specs.declared.option.Option.the-variants.{Some}
 use Rattle.std.specs.declared.result.Result.the-variants.{Ok}
@@ -50,7 +50,7 @@ returns c =
     let l = passes-level (tableRoom t) (tableNodes t) Text (sym (c .if-unfit .ensures tt)) (going-on _ (well _ _ _ s) _ i) (has-nodes _ (well _ _ _ s) _ i) refl refl refl _
     (sym (c .next-level .ensures .level s) ∙ c .in-Continue-level .was tt) in
     texted _ _ _ s (c .in-Some .parent) (c .in-Continue-level .level) (c .saturating-sub .result) (l .0) (l .1) (c .in-Continue-level .ensures tt .space refl) (c .in-Some .is)
-    (c .saturating-sub .ensures ∙ ap (λ (n : ℕ). c .args .self .now .used - n) (c .from .ensures)) in
+    (omega (arith, c .saturating-sub .ensures, c .from .ensures)) in
     let number = c .push .ensures .number in
     let pushed = c .push .ensures .memory in
     record {
