@@ -3,6 +3,7 @@ use super::failure::AllocIntoFailure;
 use super::failure::Failure;
 use super::failure::IoIntoFailure;
 use super::failure::RefusalIntoFailure;
+use document::MAX_NODES;
 use document::Readable;
 use feed::feed;
 use outline::Line;
@@ -15,16 +16,14 @@ use record_table::TableGrowing;
 use record_table::TableReadable;
 use std::io::Read;
 
-const NODES: usize = 4096;
-
 // At most 8,192 records of a feed are accepted, so what follows the next one does not matter.
 const FEED_BYTES: u64 = 4 * 8193;
 
-pub fn show(rt: &LibcRuntime) -> Result<(), Failure> {
+pub(super) fn show(rt: &LibcRuntime) -> Result<(), Failure> {
     let heap = rt.alloc();
     let mut bytes = Vec::new(heap);
     rt.stdin().take(FEED_BYTES).read_to_end(&mut bytes)?;
-    let mut records = vec![in heap; Record::BLANK; NODES]?;
+    let mut records = vec![in heap; Record::BLANK; MAX_NODES]?;
     let mut table = RecordTable::new(&mut records);
     let fed = feed(&mut table, &bytes);
     for node in 0..table.count() {

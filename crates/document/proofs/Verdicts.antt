@@ -30,12 +30,12 @@ use Rattle.document.proofs.Laws as laws
 pub fit-room : (room : ℕ) → unfit room ≡ false → room ≤ 4096
 fit-room room e = grind (arith, tells)
 
-pub bad-name : (name : ℕ) → (name ≡ 0) ⊎ ((name ≡ 0 → ⊥) × (name ≡ 65535)) → misnamed (Open name) ≡ true
+pub bad-name : (name : ℕ) → (name ≡ 0) ⊎ ((name ≡ 0 → ⊥) × (65534 < name)) → misnamed (Open name) ≡ true
 bad-name name (inl e) = grind (arith, tells)
 bad-name name (inr e) = grind (arith, tells)
 
-pub good-name : (name : ℕ) → name < 65536 → (name ≡ 0 → ⊥) → (name ≡ 65535 → ⊥) → misnamed (Open name) ≡ false
-good-name name l a b = grind (arith, tells)
+pub good-name : (name : ℕ) → (name ≡ 0 → ⊥) → name ≤ 65534 → misnamed (Open name) ≡ false
+good-name name a b = grind (arith, tells)
 
 module _ (room : ℕ) (ns : List Node) (c : Call) where
   pub by-capacity : unfit room ≡ true → refused room ns c ≡ Some BadCapacity

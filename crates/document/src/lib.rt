@@ -29,6 +29,15 @@ pub struct Node {
 // The end of an open element.
 pub const OPEN_MARK: u32 = 4_294_967_295;
 
+// A document has at most so many nodes.
+pub const MAX_NODES: usize = 4096;
+
+// Levels are counted from 0.
+pub const MAX_LEVEL: u8 = 63;
+
+// The name numbers of elements are 1 to this.
+pub const MAX_NAME: u16 = 65_534;
+
 // A call that builds a document, with the name number of the element that it opens or closes.
 #[derive(Clone, Copy, PartialEq, Eq, Debug)]
 pub enum Call {

@@ -113,8 +113,8 @@ accepts bs bytes r e h c = (
   λ k. h ∙ ok-or (decoded bs) e c .1 (exact bs bytes c .1 k),
 )
 
-pub no-call : (bs : List ℕ) (e d : Refusal) → okOr (decoded bs) e ≡ Err d → (decoded bs ≡ None) × (d ≡ e)
-no-call bs e d h = go (decoded bs) h
+pub no-call : (bs : List ℕ) (e d : Refusal) (r : Result Call Refusal) → r ≡ okOr (decoded bs) e → r ≡ Err d → (decoded bs ≡ None) × (d ≡ e)
+no-call bs e d r v h = go (decoded bs) (sym v ∙ h)
   where
     go : (o : Option Call) → okOr o e ≡ Err d → (o ≡ None) × (d ≡ e)
     go None k = (refl, cc)

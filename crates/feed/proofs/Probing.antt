@@ -1,7 +1,7 @@
 -- A close by the name 0 is refused on every document, and says whether the room is unfit.
 use mathlib.Core.Path.{_≡_, refl, sym, ap, _∙_}
 use mathlib.Core.Logic.{_⊎_, inl, inr}
-use mathlib.Core.Bool.{Bool, true, false, not}
+use mathlib.Core.Bool.{Bool, true, false}
 use mathlib.Core.List.{List}
 use Prim.Native.Nat.{ℕ, _<_}
 use native.Mathlib.Omega.{arith}
@@ -16,11 +16,10 @@ use Rattle.refusal.specs.declared.Ground.{Ground}
 use Rattle.refusal.specs.declared.Ground.the-variants.{BadCapacity, NotBegun, Ended, OtherName}
 use Rattle.refusal.specs.declared.Refusal.{Refusal}
 use Rattle.refusal.specs.Refusals.{refusal}
-use Rattle.document.specs.declared.Kind.the-variants.{Element}
 use Rattle.document.specs.declared.Node.{Node}
 use Rattle.document.specs.declared.Call.the-variants.{Close}
-use Rattle.document.specs.Document.{nameOf, kindOf, innermost}
-use Rattle.document.specs.Calls.{unfit, mismatched, refused, idle, verdict, target, answered, after, Called}
+use Rattle.document.specs.Document.{nameOf, innermost}
+use Rattle.document.specs.Calls.{unfit, mismatched, refused, idle, verdict, target, Called}
 use Rattle.document.specs.Laws.{WellFormed}
 use Rattle.document.proofs.Tests.{impossible}
 use Rattle.document.proofs.WellFormed.{inner, open-element}

@@ -1,12 +1,11 @@
 -- A sound table's records are those of its nodes.
 use mathlib.Core.Path.{_≡_, refl, sym, ap, _∙_}
-use mathlib.Core.List.{List, map}
+use mathlib.Core.List.{List}
 use Prim.Native.Nat.{ℕ, _≤_, _<_}
 use native.Mathlib.Omega.{arith}
 use lib.ListN.{length, getD, take}
 use Rattle.std.proofs.shelf.Lists.{length-map, length-take-le, getD-map, getD-take}
 use Rattle.std.specs.declared.option.Option.{Option}
-use Rattle.document.specs.declared.Node.{Node}
 use Rattle.document.specs.Document.{nowhere, nodeAt, levelOf}
 use Rattle.record_table.specs.declared.table.Record.{Record}
 use Rattle.record_table.specs.Records.{blank, nodesOf, recordOf, Sound}

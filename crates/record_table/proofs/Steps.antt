@@ -1,12 +1,12 @@
 -- A sound table: what its tests tell of its nodes, and what its writes leave.
-use mathlib.Core.Path.{_≡_, refl, sym, ap, subst, _∙_}
-use mathlib.Core.Logic.{_⊎_, inl, inr}
-use mathlib.Core.Bool.{Bool, true, false, cond, not}
+use mathlib.Core.Path.{_≡_, refl, sym, ap, _∙_}
+use mathlib.Core.Logic.{inl, inr}
+use mathlib.Core.Bool.{Bool, true, false, not}
 use mathlib.Core.List.{List, [], _∷_, _++_, map}
-use Prim.Native.Nat.{ℕ, suc, min, _+_, _-_, _≤_, _<_}
+use Prim.Native.Nat.{ℕ, min, _+_, _-_, _≤_, _<_}
 use native.Mathlib.Omega.{arith}
 use denote.Ref.{now}
-use lib.Dec.{eqb, leb, ltb}
+use lib.Dec.{eqb, ltb}
 use lib.ListN.{length, getD, set, take}
 use lib.Seq.{take-set-lt}
 use Rattle.std.proofs.shelf.Lists.{length-set, map-set, map-push, take-more-set, getD-push, getD-set-same, getD-set-other}
@@ -22,9 +22,9 @@ use Rattle.refusal.specs.declared.Refusal.{Refusal}
 use Rattle.refusal.specs.Refusals.{refusal}
 use Rattle.document.specs.declared.Node.{Node}
 use Rattle.document.specs.declared.Call.{Call}
-use Rattle.document.specs.Document.{asked, nowhere, nodeAt, nameOf, parentOf, innermost, closedCount, oneAbove, levelOf}
+use Rattle.document.specs.Document.{asked, nowhere, nodeAt, nameOf, innermost, closedCount, oneAbove, levelOf}
 use Rattle.std.specs.Options.{isSome}
-use Rattle.document.specs.Calls.{orZero, unfit, ended, early, mismatched, idle, adds, refused, target, verdict, accepted, after, withEnd, element, text, Grown, more, Called}
+use Rattle.document.specs.Calls.{orZero, unfit, ended, early, mismatched, idle, refused, target, verdict, accepted, after, withEnd, element, text, more, Called}
 use Rattle.document.specs.Laws.{WellFormed}
 use Rattle.document.proofs.Calls.{grown-well, calls-next}
 use Rattle.document.proofs.Effects.{accepted-after, open-counts, text-counts, close-counts, open-level, text-level}
@@ -34,7 +34,7 @@ use Rattle.document.proofs.Questions.{asked-ok, asked-err}
 use Rattle.document.specs.declared.Call.the-variants as call
 use Rattle.record_table.specs.declared.table.Record.{Record}
 use Rattle.record_table.specs.declared.table.RecordTable.{RecordTable}
-use Rattle.record_table.specs.Records.{blank, nodesOf, recordOf, written, Sound, tableNodes, tableSound, tableRoom, tableWritten}
+use Rattle.record_table.specs.Records.{blank, nodesOf, recordOf, written, Sound, tableNodes, tableSound, tableRoom}
 use Rattle.record_table.proofs.Looks.{length-nodes, node-at}
 
 none-when : (o : Option ℕ) → isSome o ≡ false → o ≡ None

@@ -11,7 +11,7 @@ use Rattle.refusal.specs.declared.Refusal.{Refusal}
 use Rattle.document.specs.declared.Node.{Node}
 use Rattle.document.specs.declared.Call.{Call}
 use Rattle.document.specs.Document.{nowhere, nodeAt, levelOf, innermost}
-use Rattle.document.specs.Calls.{after, Grown, Called}
+use Rattle.document.specs.Calls.{after, Grown}
 use Rattle.record_table.specs.declared.table.Record.{Record}
 use Rattle.record_table.specs.declared.table.RecordTable.{RecordTable}
 

@@ -9,6 +9,7 @@ use super::table::Record;
 use super::table::RecordTable;
 use document::Growing;
 use document::Kind;
+use document::MAX_NAME;
 use document::Node;
 use document::OPEN_MARK;
 use document::Readable;
@@ -29,7 +30,7 @@ pub impl<'a> Growing for RecordTable<'a> as TableGrowing {
         if self.ended() {
             return Err(Ground::Ended.at(0));
         }
-        if name == 0 || name == 65535 {
+        if name == 0 || name > MAX_NAME {
             return Err(Ground::BadName.at(0));
         }
         let level = self.next_level()?;
@@ -80,8 +81,8 @@ pub impl<'a> Growing for RecordTable<'a> as TableGrowing {
         if record.node.name != name {
             return Err(Ground::OtherName.at(0));
         }
-        self.records[innermost as usize].node.end = self.used
-            .saturating_sub(u32::from(record.level) + 1);
+        let end = self.used.saturating_sub(u32::from(record.level) + 1);
+        self.records[innermost as usize].node.end = end;
         self.innermost = record.node.parent;
         Ok(innermost)
     }

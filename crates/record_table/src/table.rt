@@ -11,6 +11,8 @@ ghost use Rattle.document.specs.Document.{asked, oneAbove, levelOf, innermost a
 ghost use Rattle.document.specs.Calls.{unfit as unfitOf, ended as endedOf, idle as idleOf, nextLevel};
 ghost use Rattle.record_table.specs.Records.{recordOf, tableNodes, tableSound, tableRoom};
 use document::Kind;
+use document::MAX_LEVEL;
+use document::MAX_NODES;
 use document::Node;
 use document::NodeDebug;
 use document::NodeEq;
@@ -77,7 +79,7 @@ impl<'a> RecordTable<'a> {
     pub(crate) fn unfit(&self) -> bool
         ensures { λ r. ⌜ r ≡ unfitOf (tableRoom (now (self .entry))) ⌝ }
     {
-        self.records.is_empty() || self.records.len() > 4096
+        self.records.is_empty() || self.records.len() > MAX_NODES
     }
 
     // Whether node 0 is closed.
@@ -117,7 +119,7 @@ impl<'a> RecordTable<'a> {
         ensures space { λ r. ⌜ (isOk r ≡ true → now (self .entry) .used < tableRoom (now (self .entry))) ⌝ }
     {
         let level = self.level_below();
-        if level > 63 {
+        if level > MAX_LEVEL {
             return Err(Ground::TooDeep.at(0));
         }
         if self.used as usize >= self.records.len() {

@@ -1,5 +1,5 @@
-use mathlib.Core.Path.{sym, ap, _∙_}
-use Prim.Native.Nat.{ℕ, _+_}
+use mathlib.Core.Path.{sym}
+use native.Mathlib.Omega.{arith}
 use Rattle.document.proofs.Calls.{grown-well}
 use Rattle.document.proofs.Questions.{none-open, some-open, open-asked}
 use Rattle.document.proofs.generic.open_elements.Needs as need
@@ -9,8 +9,8 @@ returns-in-rest g c = λ s. sym (none-open _ (grown-well _ (g .D·Readable .grow
 
 pub returns-in-Ok : need.returns-in-Ok
 returns-in-Ok g c = λ s.
-    ap (λ (n : ℕ). n + 1) (c .from .ensures)
-    ∙ some-open _ (grown-well _ (g .D·Readable .grown _ s)) _ (c .innermost .ensures s) (c .in-Some .innermost) _ (c .in-Some .is) _ (c .level .ensures s) (c .in-Ok .is)
+    let found = some-open _ (grown-well _ (g .D·Readable .grown _ s)) _ (c .innermost .ensures s) (c .in-Some .innermost) _ (c .in-Some .is) _ (c .level .ensures s) (c .in-Ok .is) in
+    omega (arith, c .from .ensures)
 
 pub returns-in-Err : need.returns-in-Err
 returns-in-Err g c = λ s.

@@ -16,15 +16,14 @@ loop-record-holds g c =
 pub loop-record-again : need.loop-record-again
 loop-record-again g c =
     let step = c .in-Some .ensures tt .steps in
-    let size = step .0 ∙ c .loop-record .inv .2 in
-    let cut = step .1 .0 in (
+    let was = c .loop-record .inv in (
       tt,
-      omega (arith, size),
-      size,
-      omega (arith, c .loop-record .inv .3, ap length cut, length-append (c .in-Some .record .now) (c .next .last .self .rest .now), step .1 .1, c .loop-record .inv .2),
+      omega (arith, step .0, was .2),
+      omega (arith, step .0, was .2),
+      omega (arith, was .3, ap length (step .1 .0), length-append (c .in-Some .record .now) (c .next .last .self .rest .now), step .1 .1, was .2),
       λ s.
-          let f = c .loop-record .inv .4 s in
-          goes-on f (c .in-Some .record .now) _ cut (c .feed-record .ensures (f .still-sound)) (λ i. c .typed .bytes i .fits) _ (c .in-rest .is),
+          let f = was .4 s in
+          goes-on f (c .in-Some .record .now) _ (step .1 .0) (c .feed-record .ensures (f .still-sound)) (λ i. c .typed .bytes i .fits) _ (c .in-rest .is),
     )
 
 pub returns-in-Err : need.returns-in-Err

@@ -1,4 +1,4 @@
-use mathlib.Core.Path.{refl, sym, ap, _∙_}
+use mathlib.Core.Path.{refl, sym, _∙_}
 use native.Mathlib.Omega.{arith}
 use Rattle.refusal.specs.declared.Ground.the-variants.{BadCapacity, OtherName}
 use Rattle.document.specs.declared.Call.the-variants.{Close}
@@ -55,9 +55,9 @@ returns c =
     let r = c .in-Continue-record .record in
     let d = λ (s : tableSound t).
     let found = asked-ok (tableNodes t) p (recordOf (tableNodes t)) r (sym (c .record .ensures .value s) ∙ c .in-Continue-record .was tt) in
-    shut _ _ _ s p (c .args .name) (c .saturating-sub .result) r
+    shut _ _ _ s p (c .args .name) (c .saturating-sub-end .result) r
     (named t s p r (c .args .name) (c .in-Some .is) (found .1) (sym (c .if-unfit .ensures tt)) (c .if-record-name .left))
-    (c .in-Some .is) (found .1) (omega (arith, c .saturating-sub .ensures, c .from .ensures)) in
+    (c .in-Some .is) (found .1) (omega (arith, c .saturating-sub-end .ensures, c .from .ensures)) in
     record {
       called = λ s. called-by (d s) refl refl refl refl;
       memory = λ s. memory-by (d s) refl refl;

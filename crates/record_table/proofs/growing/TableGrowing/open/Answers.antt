@@ -1,15 +1,9 @@
-use mathlib.Core.Path.{_≡_, refl, sym, ap, _∙_}
-use mathlib.Core.Bool.{true, false}
-use mathlib.Core.Logic.{_⊎_}
-use Prim.Native.Nat.{ℕ}
-use native.Mathlib.Omega.{arith}
+use mathlib.Core.Path.{refl, sym, ap, _∙_}
 use Rattle.std.proofs.shelf.Results.{err-from-errBy}
-use Rattle.std.proofs.shelf.Ways.{tells}
 use Rattle.std.specs.declared.option.Option.the-variants.{Some}
-use Rattle.std.specs.declared.result.Result.the-variants.{Ok, Err}
+use Rattle.std.specs.declared.result.Result.the-variants.{Ok}
 use Rattle.refusal.specs.declared.Ground.the-variants.{BadCapacity, Ended, BadName}
 use Rattle.document.specs.declared.Call.the-variants.{Open}
-use Rattle.document.specs.Calls.{misnamed}
 use Rattle.document.proofs.Verdicts.{bad-name, good-name, by-capacity, by-end, by-name, by-level, passes-level}
 use Rattle.record_table.specs.Records.{tableNodes, tableRoom, tableSound}
 use Rattle.record_table.proofs.Steps.{called-by, memory-by, refused-at, opened}
@@ -48,7 +42,7 @@ pub returns-in-Break-level : need.returns-in-Break-level
 returns-in-Break-level c =
     let t = c .args .self .now in
     let p = err-from-errBy (c .from-residual .result) (c .from-residual .ensures .1) in
-    let named = good-name (c .args .name) (c .fits .name .fits) (c .if-name-eq0 .left) (c .if-name-eq65535 .left) in
+    let named = good-name (c .args .name) (c .if-name-eq0 .left) (c .if-name-gt-MAX-NAME .left) in
     record {
       called = λ s.
           let l = by-level (tableRoom t) (tableNodes t) (Open (c .args .name)) (sym (c .if-unfit .ensures tt)) (sym (c .if-ended .ensures tt s)) refl named refl _
@@ -61,7 +55,7 @@ returns-in-Break-level c =
 pub returns : need.returns
 returns c =
     let t = c .args .self .now in
-    let named = good-name (c .args .name) (c .fits .name .fits) (c .if-name-eq0 .left) (c .if-name-eq65535 .left) in
+    let named = good-name (c .args .name) (c .if-name-eq0 .left) (c .if-name-gt-MAX-NAME .left) in
     let d = λ (s : tableSound t).
     let l = passes-level (tableRoom t) (tableNodes t) (Open (c .args .name)) (sym (c .if-unfit .ensures tt)) (sym (c .if-ended .ensures tt s)) refl named refl refl _
     (sym (c .next-level .ensures .level s) ∙ c .in-Continue-level .was tt) in

@@ -1,6 +1,6 @@
-use mathlib.Core.Path.{sym}
-use Rattle.record_table.proofs.Looks.{length-nodes}
+use native.Mathlib.Omega.{arith}
+use Rattle.record_table.proofs.Steps.{size}
 use Rattle.record_table.proofs.readable.TableReadable.count.Needs as need
 
 pub returns : need.returns
-returns c = λ s. sym (length-nodes _ _ (s .fits))
+returns c = λ s. omega (arith, size _ _ _ s)
