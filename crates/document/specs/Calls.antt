@@ -19,7 +19,7 @@ use Rattle.refusal.specs.declared.Refusal.{Refusal}
 use Rattle.refusal.specs.Refusals.{refusal}
 use Rattle.document.specs.Document.{openMark, nodeAt, nameOf, closed, innermost, closedCount, oneAbove, levelOf}
 
--- room is how many nodes there is memory for: none, or more than a document may have
+-- there is memory for no node, or for more than a document may have: room is for how many
 abbrev pub unfit : ℕ → Bool
 unfit room = eqb room 0 || ltb 4096 room
 

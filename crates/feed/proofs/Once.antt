@@ -14,7 +14,7 @@ use Rattle.document.specs.declared.Call.{Call}
 use Rattle.document.specs.Calls.{answered, after, run}
 use Rattle.document.proofs.Tests.{impossible}
 use Rattle.feed.specs.Records.{encoded, decoded}
-use Rattle.feed.specs.Feeds.{answeredBy, encodedAll, Accepted, Ended, Feeds-once}
+use Rattle.feed.specs.Feeds.{answeredBy, encodedAll, Accepted, Ends, Feeds-once}
 use Rattle.feed.proofs.Exact.{four, decoded-encoded}
 
 head-same : (c d : Call) (xs ys : List ℕ) → encoded c ++ xs ≡ encoded d ++ ys → (c ≡ d) × (xs ≡ ys)
@@ -25,7 +25,7 @@ head-same c d xs ys e =
 
 -- no reading ends at the record of a call that is accepted
 not-here : {A : Type 0} (room : ℕ) (ns : List Node) (i : ℕ) (c : Call) (xs rest : List ℕ) (stop : Option Refusal) → rest ≡ encoded c ++ xs
-    → (n : ℕ) → answered room ns c ≡ Ok n → Ended room ns i rest stop → A
+    → (n : ℕ) → answered room ns c ≡ Ok n → Ends room ns i rest stop → A
 not-here room ns i c xs rest None e n a h =
     absurd (omega (arith, ap length e, ap length h, length-append (encoded c) xs, four c))
 not-here room ns i c xs rest (Some x) e n a h =
@@ -33,7 +33,7 @@ not-here room ns i c xs rest (Some x) e n a h =
     let again : answered room ns c ≡ Err x = sym (ap (answeredBy room ns i) (ap decoded here ∙ decoded-encoded c)) ∙ h .1 in
     impossible (cc)
 
-same-stop : (room : ℕ) (ns : List Node) (i : ℕ) (rest : List ℕ) (stop stop′ : Option Refusal) → Ended room ns i rest stop → Ended room ns i rest stop′ → stop ≡ stop′
+same-stop : (room : ℕ) (ns : List Node) (i : ℕ) (rest : List ℕ) (stop stop′ : Option Refusal) → Ends room ns i rest stop → Ends room ns i rest stop′ → stop ≡ stop′
 same-stop room ns i rest None None a b = refl
 same-stop room ns i rest None (Some e) a b = absurd (omega (arith, ap length a))
 same-stop room ns i rest (Some e) None a b = absurd (omega (arith, ap length b))
@@ -41,7 +41,7 @@ same-stop room ns i rest (Some e) (Some f) a b = let p = a .1 in let q = b .1 in
 
 one-reading : (room : ℕ) (ns : List Node) (i j k : ℕ) (cs ds : List Call) (rest rest′ : List ℕ) (stop stop′ : Option Refusal)
     → encodedAll cs ++ rest ≡ encodedAll ds ++ rest′ → Accepted room ns cs → Accepted room ns ds → j ≡ i + length cs → k ≡ i + length ds
-    → Ended room (run room ns cs) j rest stop → Ended room (run room ns ds) k rest′ stop′ → (cs ≡ ds) × (stop ≡ stop′)
+    → Ends room (run room ns cs) j rest stop → Ends room (run room ns ds) k rest′ stop′ → (cs ≡ ds) × (stop ≡ stop′)
 one-reading room ns i j k [] [] rest rest′ stop stop′ e a b p q h l =
     (refl, same-stop room ns j rest stop stop′ h (rw (p, ← q, e) l))
 one-reading room ns i j k [] (d ∷ ds) rest rest′ stop stop′ e a b p q h l =
@@ -53,7 +53,7 @@ one-reading room ns i j k (c ∷ cs) (d ∷ ds) rest rest′ stop stop′ e a b 
     (sym (append-assoc (encoded c) (encodedAll cs) rest) ∙ e ∙ append-assoc (encoded d) (encodedAll ds) rest′) in
     let same : after room ns d ≡ after room ns c = ap (after room ns) (sym (s .0)) in
     let b′ : Accepted room (after room ns c) ds = subst (λ (ms : List Node). Accepted room ms ds) same (b .1) in
-    let l′ : Ended room (run room (after room ns c) ds) k rest′ stop′ = subst (λ (ms : List Node). Ended room (run room ms ds) k rest′ stop′) same l in
+    let l′ : Ends room (run room (after room ns c) ds) k rest′ stop′ = subst (λ (ms : List Node). Ends room (run room ms ds) k rest′ stop′) same l in
     let r = one-reading room (after room ns c) (i + 1) j k cs ds rest rest′ stop stop′ (s .1) (a .1) b′ (omega arith) (omega arith) h l′ in
     (ap (λ (x : Call). x ∷ cs) (s .0) ∙ ap (λ (xs : List Call). d ∷ xs) (r .0), r .1)
 
@@ -62,6 +62,6 @@ feeds-once room ns bs count count′ stop stop′ new new′ f g =
     let o = one-reading room ns 0 count count′ (f .read .calls) (g .read .calls) (f .rest) (g .rest) stop stop′
     (sym (f .read .split) ∙ g .read .split) (f .read .accepted) (g .read .accepted)
     (f .read .counted ∙ omega arith) (g .read .counted ∙ omega arith)
-    (subst (λ (ms : List Node). Ended room ms count (f .rest) stop) (f .read .leaves) (f .ended))
-    (subst (λ (ms : List Node). Ended room ms count′ (g .rest) stop′) (g .read .leaves) (g .ended)) in
+    (subst (λ (ms : List Node). Ends room ms count (f .rest) stop) (f .read .leaves) (f .ended))
+    (subst (λ (ms : List Node). Ends room ms count′ (g .rest) stop′) (g .read .leaves) (g .ended)) in
     (f .read .counted ∙ ap length (o .0) ∙ sym (g .read .counted), o .1, f .read .leaves ∙ ap (run room ns) (o .0) ∙ sym (g .read .leaves))

@@ -59,16 +59,16 @@ pub record Read (room : ℕ) (ns : List Node) (bs : List ℕ) (count : ℕ) (res
   pub accepted : Accepted room ns calls
   pub leaves : new ≡ run room ns calls
 
--- why reading ended at record i, with these bytes left: there are none, or the record is refused
-abbrev pub Ended : ℕ → List Node → ℕ → List ℕ → Option Refusal → Type 0
-Ended room ns i rest None = rest ≡ []
-Ended room ns i rest (Some e) = (0 < length rest) × (recordAnswered room ns i (take 4 rest) ≡ Err e)
+-- why reading ends at record i, with these bytes left: there are none, or the record is refused
+abbrev pub Ends : ℕ → List Node → ℕ → List ℕ → Option Refusal → Type 0
+Ends room ns i rest None = rest ≡ []
+Ends room ns i rest (Some e) = (0 < length rest) × (recordAnswered room ns i (take 4 rest) ≡ Err e)
 
 -- The bytes are read to their end or to the first record that is refused: count records are accepted, stop is the refusal, new what the records leave.
 pub record Feeds (room : ℕ) (ns : List Node) (bs : List ℕ) (count : ℕ) (stop : Option Refusal) (new : List Node) : Type 0 where
   pub rest : List ℕ
   pub read : Read room ns bs count rest new
-  pub ended : Ended room new count rest stop
+  pub ended : Ends room new count rest stop
 
 -- Bytes and a document leave one answer and one document.
 abbrev pub Feeds-once : Type 0
