@@ -1,4 +1,4 @@
--- From a make's tests to what a call answers, for every make.
+-- From an implementation's tests to what a call answers.
 use mathlib.Core.Path.{_≡_, refl, sym, ap, _∙_}
 use mathlib.Core.Logic.{_⊎_, inl, inr}
 use mathlib.Core.Bool.{Bool, true, false, cond}

@@ -138,7 +138,7 @@ abbrev pub run : ℕ → List Node → List Call → List Node
 run room ns [] = ns
 run room ns (c ∷ cs) = run room (after room ns c) cs
 
--- A call on a value of some make: its answer r, the nodes that it leaves, and the value is sound again and has the same room.
+-- A call on a value of some implementation: its answer r, the nodes that it leaves, and the value is sound again and has the same room.
 pub record Called {S : Type 0} (nodes : S → List Node) (sound : S → Type 0) (room : S → ℕ) (was : S) (c : Call) (r : Result ℕ Refusal) (is : S) : Type 0 where
   pub answer : r ≡ answered (room was) (nodes was) c
   pub leaves : nodes is ≡ after (room was) (nodes was) c

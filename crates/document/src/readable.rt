@@ -12,10 +12,10 @@ pub trait Readable {
     // The nodes that the value means, in the order in which they begin.
     ghost nodes: { Self → List Node };
 
-    // The value is of its make's own making: what it keeps besides agrees with the nodes.
+    // The value is of its type's own making: what it keeps besides agrees with the nodes.
     ghost sound: { Self → Type 0 };
 
-    // A proof, which each make gives: the nodes of a sound value are what calls leave.
+    // A proof, which each implementation gives: the nodes of a sound value are what calls leave.
     ghost grown: { (s : Self) → sound s → Grown (nodes s) };
 
     fn count(&self) -> u32

@@ -126,7 +126,7 @@ read-few {room} {ns} w r =
     let end = runs-stable room ns (r .calls) w .1 in
     omega (arith, few-calls room ns (r .calls) w (r .accepted), r .counted, closed-few new, end .bounded)
 
--- what stands at the start of a turn, of any make
+-- what stands at the start of a turn, of any implementation
 pub record So-far {S : Type 0} (nodes : S → List Node) (sound : S → Type 0) (room : S → ℕ) (was : S) (bs : List ℕ) (count : ℕ) (rest : List ℕ) (is : S) : Type 0 where
   pub read : Read (room was) (nodes was) bs count rest (nodes is)
   pub same-room : room is ≡ room was

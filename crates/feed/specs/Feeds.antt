@@ -28,14 +28,14 @@ afterBy room ns None = ns
 abbrev pub recordAnswered : ℕ → List Node → ℕ → List ℕ → Result ℕ Refusal
 recordAnswered room ns i bs = answeredBy room ns i (decoded bs)
 
--- A value of some make is asked whether its room is unfit, and stays as it was.
+-- A value of some implementation is asked whether its room is unfit, and stays as it was.
 pub record Probed {S : Type 0} (nodes : S → List Node) (sound : S → Type 0) (room : S → ℕ) (was : S) (r : Bool) (is : S) : Type 0 where
   pub answer : r ≡ unfit (room was)
   pub leaves : nodes is ≡ nodes was
   pub same-room : room is ≡ room was
   pub still-sound : sound is
 
--- A record fed to a value of some make: its answer r, the nodes that it leaves, and the value is sound again and has the same room.
+-- A record fed to a value of some implementation: its answer r, the nodes that it leaves, and the value is sound again and has the same room.
 pub record Recorded {S : Type 0} (nodes : S → List Node) (sound : S → Type 0) (room : S → ℕ) (was : S) (i : ℕ) (bs : List ℕ) (r : Result ℕ Refusal) (is : S) : Type 0 where
   pub answer : r ≡ recordAnswered (room was) (nodes was) i bs
   pub leaves : nodes is ≡ afterBy (room was) (nodes was) (decoded bs)
@@ -75,7 +75,7 @@ abbrev pub Feeds-once : Type 0
 Feeds-once = (room : ℕ) (ns : List Node) (bs : List ℕ) (count count′ : ℕ) (stop stop′ : Option Refusal) (new new′ : List Node)
     → Feeds room ns bs count stop new → Feeds room ns bs count′ stop′ new′ → (count ≡ count′) × (stop ≡ stop′) × (new ≡ new′)
 
--- A feed read into a value of some make. A document has at most 4,096 nodes, each with at most two records.
+-- A feed read into a value of some implementation. A document has at most 4,096 nodes, each with at most two records.
 pub record Fed-to {S : Type 0} (nodes : S → List Node) (sound : S → Type 0) (room : S → ℕ) (was : S) (bs : List ℕ) (count : ℕ) (stop : Option Refusal) (is : S) : Type 0 where
   pub feeds : Feeds (room was) (nodes was) bs count stop (nodes is)
   pub few : count ≤ 8192
