@@ -17,7 +17,7 @@ use Rattle.std.specs.declared.option.Option.the-variants.{Some, None}
 use Rattle.std.specs.declared.result.Result.{Result}
 use Rattle.std.specs.declared.result.Result.the-variants.{Ok, Err}
 use Rattle.refusal.specs.declared.Ground.{Ground}
-use Rattle.refusal.specs.declared.Ground.the-variants.{OtherName}
+use Rattle.refusal.specs.declared.Ground.the-variants.{BadCapacity, OtherName}
 use Rattle.refusal.specs.declared.Refusal.{Refusal}
 use Rattle.refusal.specs.Refusals.{refusal}
 use Rattle.document.specs.declared.Node.{Node}
@@ -28,7 +28,7 @@ use Rattle.document.specs.Calls.{orZero, unfit, ended, early, mismatched, idle,
 use Rattle.document.specs.Laws.{WellFormed}
 use Rattle.document.proofs.Calls.{grown-well, calls-next}
 use Rattle.document.proofs.Effects.{accepted-after, open-counts, text-counts, close-counts, open-level, text-level}
-use Rattle.document.proofs.Verdicts.{by-other-name, passes-close, going-on, has-nodes, all-ended, not-ended, idle-refused, refuses}
+use Rattle.document.proofs.Verdicts.{by-capacity, by-other-name, passes-close, going-on, has-nodes, all-ended, not-ended, idle-refused, refuses}
 use Rattle.document.proofs.WellFormed.{inner}
 use Rattle.document.proofs.Questions.{asked-ok, asked-err}
 use Rattle.document.specs.declared.Call.the-variants as call
@@ -71,6 +71,11 @@ memory-by d a m = rw (a, m) (d .memory)
 pub refused-at : (t : RecordTable) (c : Call) → tableSound t → (e : Refusal) (g : Ground) → refused (tableRoom t) (tableNodes t) c ≡ Some g → e ≡ refusal g 0
     → Called tableNodes tableSound tableRoom t c (Err e) t
 refused-at t c s e g h q = rw q (refuses s g h)
+
+-- memory for no node or for too many
+pub unfit-at : (t : RecordTable) (c : Call) → tableSound t → true ≡ unfit (tableRoom t) → (e : Refusal) → e ≡ refusal BadCapacity 0
+    → Called tableNodes tableSound tableRoom t c (Err e) t
+unfit-at t c s u e q = refused-at t c s e BadCapacity (by-capacity (tableRoom t) (tableNodes t) c (sym u)) q
 
 module _ (rs : List Record) (used : ℕ) (at : Option ℕ) (s : Sound rs used at) where
   pub well : WellFormed (nodesOf rs used)

@@ -1,21 +1,18 @@
 use mathlib.Core.Path.{refl, sym, _∙_}
 use native.Mathlib.Omega.{arith}
-use Rattle.refusal.specs.declared.Ground.the-variants.{BadCapacity, OtherName}
+use Rattle.refusal.specs.declared.Ground.the-variants.{OtherName}
 use Rattle.document.specs.declared.Call.the-variants.{Close}
 use Rattle.document.proofs.Questions.{asked-ok}
-use Rattle.document.proofs.Verdicts.{by-capacity}
-use Rattle.record_table.specs.Records.{recordOf, tableNodes, tableRoom, tableSound}
-use Rattle.record_table.proofs.Steps.{called-by, memory-by, refused-at, idle-at, has-record, other-named, named, shut}
+use Rattle.record_table.specs.Records.{recordOf, tableNodes, tableSound}
+use Rattle.record_table.proofs.Steps.{called-by, memory-by, refused-at, unfit-at, idle-at, has-record, other-named, named, shut}
 use Rattle.record_table.proofs.growing.TableGrowing.close.Needs as need
 
 pub returns-then-unfit : need.returns-then-unfit
-returns-then-unfit c =
-    let t = c .args .self .now in
-    record {
-      called = λ s. refused-at t (Close (c .args .name)) s _ BadCapacity (by-capacity (tableRoom t) (tableNodes t) _ (sym (c .if-unfit .ensures tt))) (c .at .ensures);
-      memory = λ s. refl;
-      lent = refl;
-    }
+returns-then-unfit c = record {
+  called = λ s. unfit-at (c .args .self .now) (Close (c .args .name)) s (c .if-unfit .ensures tt) _ (c .at .ensures);
+  memory = λ s. refl;
+  lent = refl;
+}
 
 pub returns-in-rest : need.returns-in-rest
 returns-in-rest c =

@@ -2,21 +2,19 @@ use mathlib.Core.Path.{refl, sym, ap, _∙_}
 use Rattle.std.proofs.shelf.Results.{err-from-errBy}
 use Rattle.std.specs.declared.option.Option.the-variants.{Some}
 use Rattle.std.specs.declared.result.Result.the-variants.{Ok}
-use Rattle.refusal.specs.declared.Ground.the-variants.{BadCapacity, Ended, BadName}
+use Rattle.refusal.specs.declared.Ground.the-variants.{Ended, BadName}
 use Rattle.document.specs.declared.Call.the-variants.{Open}
-use Rattle.document.proofs.Verdicts.{bad-name, good-name, by-capacity, by-end, by-name, by-level, passes-level}
+use Rattle.document.proofs.Verdicts.{bad-name, good-name, by-end, by-name, by-level, passes-level}
 use Rattle.record_table.specs.Records.{tableNodes, tableRoom, tableSound}
-use Rattle.record_table.proofs.Steps.{called-by, memory-by, refused-at, opened}
+use Rattle.record_table.proofs.Steps.{called-by, memory-by, refused-at, unfit-at, opened}
 use Rattle.record_table.proofs.growing.TableGrowing.open.Needs as need
 
 pub returns-then-unfit : need.returns-then-unfit
-returns-then-unfit c =
-    let t = c .args .self .now in
-    record {
-      called = λ s. refused-at t (Open (c .args .name)) s _ BadCapacity (by-capacity (tableRoom t) (tableNodes t) _ (sym (c .if-unfit .ensures tt))) (c .at .ensures);
-      memory = λ s. refl;
-      lent = refl;
-    }
+returns-then-unfit c = record {
+  called = λ s. unfit-at (c .args .self .now) (Open (c .args .name)) s (c .if-unfit .ensures tt) _ (c .at .ensures);
+  memory = λ s. refl;
+  lent = refl;
+}
 
 pub returns-then-ended : need.returns-then-ended
 returns-then-ended c =

@@ -2,21 +2,18 @@ use mathlib.Core.Path.{refl, sym, ap, _∙_}
 use native.Mathlib.Omega.{arith}
 use Rattle.std.proofs.shelf.Results.{err-from-errBy}
 use Rattle.std.specs.declared.result.Result.the-variants.{Ok}
-use Rattle.refusal.specs.declared.Ground.the-variants.{BadCapacity}
 use Rattle.document.specs.declared.Call.the-variants.{Text}
-use Rattle.document.proofs.Verdicts.{by-capacity, by-level, passes-level, going-on, has-nodes}
+use Rattle.document.proofs.Verdicts.{by-level, passes-level, going-on, has-nodes}
 use Rattle.record_table.specs.Records.{tableNodes, tableRoom, tableSound}
-use Rattle.record_table.proofs.Steps.{called-by, memory-by, refused-at, idle-at, well, texted}
+use Rattle.record_table.proofs.Steps.{called-by, memory-by, refused-at, unfit-at, idle-at, well, texted}
 use Rattle.record_table.proofs.growing.TableGrowing.text.Needs as need
 
 pub returns-then-unfit : need.returns-then-unfit
-returns-then-unfit c =
-    let t = c .args .self .now in
-    record {
-      called = λ s. refused-at t Text s _ BadCapacity (by-capacity (tableRoom t) (tableNodes t) _ (sym (c .if-unfit .ensures tt))) (c .at .ensures);
-      memory = λ s. refl;
-      lent = refl;
-    }
+returns-then-unfit c = record {
+  called = λ s. unfit-at (c .args .self .now) Text s (c .if-unfit .ensures tt) _ (c .at .ensures);
+  memory = λ s. refl;
+  lent = refl;
+}
 
 pub returns-in-rest : need.returns-in-rest
 returns-in-rest c =
