@@ -63,8 +63,6 @@ pub fn feed<D: Growing>(document: &mut D, bytes: &[u8]) -> Fed
 }
 
 // A feed has one outcome.
-pub fn feeds_stand() -> u8
+pub fn feeds_stand()
     ensures { λ _. ⌜ Feeds-once ⌝ }
-{
-    0
-}
+{}
