@@ -17,15 +17,15 @@ const USAGE: &str = "batch: shows the documents of billing batches
 A refusal is one line on standard error, 'refused: NUMBER LAYER PLACE: GROUND',
 and the exit status is then 1.";
 
-// What went wrong has been said.
-struct Ended;
+// The program ends with status 1; why is on standard error.
+struct Reported;
 
-fn main(rt: LibcRuntime) -> Result<(), Ended> {
+fn main(rt: LibcRuntime) -> Result<(), Reported> {
     match run(&rt) {
         Ok(()) => Ok(()),
         Err(failure) => {
             let _ = eprintln!(rt, "{failure}");
-            Err(Ended)
+            Err(Reported)
         }
     }
 }

@@ -5,6 +5,7 @@ use super::failure::IoIntoFailure;
 use super::failure::RefusalIntoFailure;
 use document::MAX_NODES;
 use document::Readable;
+use feed::RECORD_BYTES;
 use feed::feed;
 use outline::Line;
 use outline::LineDisplay;
@@ -17,7 +18,7 @@ use record_table::TableReadable;
 use std::io::Read;
 
 // At most 8,192 records of a feed are accepted, so what follows the next one does not matter.
-const FEED_BYTES: u64 = 4 * 8193;
+const FEED_BYTES: u64 = RECORD_BYTES as u64 * 8193;
 
 pub(super) fn show(rt: &LibcRuntime) -> Result<(), Failure> {
     let heap = rt.alloc();

@@ -137,7 +137,7 @@ fn no_node() -> Result<(), Fail> {
     table.open(1)?;
     check_eq(table.parent(0), Ok(None))?;
     check_eq(table.parent(1), Err(Ground::NoNode.at(1)))?;
-    check_eq(table.kind(2).is_err(), true)?;
+    check(table.kind(2).is_err())?;
     check_eq(table.name(3), Err(Ground::NoNode.at(3)))?;
     check_eq(table.level(4), Err(Ground::NoNode.at(4)))?;
     check_eq(table.end(4294967295), Err(Ground::NoNode.at(4294967295)))

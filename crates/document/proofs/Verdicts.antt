@@ -27,9 +27,6 @@ use Rattle.document.proofs.WellFormed.{inner, no-inner, closed-before}
 use Rattle.document.proofs.Effects.{refused-after}
 use Rattle.document.proofs.Laws as laws
 
-pub fit-room : (room : ℕ) → unfit room ≡ false → room ≤ 4096
-fit-room room e = grind (arith, tells)
-
 pub bad-name : (name : ℕ) → (name ≡ 0) ⊎ ((name ≡ 0 → ⊥) × (65534 < name)) → misnamed (Open name) ≡ true
 bad-name name (inl e) = grind (arith, tells)
 bad-name name (inr e) = grind (arith, tells)

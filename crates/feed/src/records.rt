@@ -10,10 +10,11 @@ use document::Call;
 use refusal::Ground;
 use refusal::Refusal;
 
+// The length of a record.
 pub const RECORD_BYTES: usize = 4;
 
 // The bytes of a call's record.
-pub fn encode(call: Call) -> [u8; 4]
+pub fn encode(call: Call) -> [u8; RECORD_BYTES]
     ensures { λ r. ⌜ r ≡ encoded call ⌝ }
 {
     match call {

@@ -12,6 +12,7 @@ use lib.Seq.{take-set-lt}
 use Rattle.std.proofs.shelf.Lists.{length-set, map-set, map-push, take-more-set, getD-push, getD-set-same, getD-set-other}
 use Rattle.std.proofs.shelf.Tests.{cases-eq, cases-lt, eq-eqb, ne-eqb, lt-ltb, le-ltb}
 use Rattle.std.proofs.shelf.Ways.{tells}
+use Rattle.std.specs.Options.{isSome}
 use Rattle.std.specs.declared.option.Option.{Option}
 use Rattle.std.specs.declared.option.Option.the-variants.{Some, None}
 use Rattle.std.specs.declared.result.Result.{Result}
@@ -22,8 +23,8 @@ use Rattle.refusal.specs.declared.Refusal.{Refusal}
 use Rattle.refusal.specs.Refusals.{refusal}
 use Rattle.document.specs.declared.Node.{Node}
 use Rattle.document.specs.declared.Call.{Call}
+use Rattle.document.specs.declared.Call.the-variants as call
 use Rattle.document.specs.Document.{asked, nowhere, nodeAt, nameOf, innermost, closedCount, oneAbove, levelOf}
-use Rattle.std.specs.Options.{isSome}
 use Rattle.document.specs.Calls.{orZero, unfit, ended, early, mismatched, idle, refused, target, verdict, accepted, after, withEnd, element, text, more, Called}
 use Rattle.document.specs.Laws.{WellFormed}
 use Rattle.document.proofs.Calls.{grown-well, calls-next}
@@ -31,7 +32,6 @@ use Rattle.document.proofs.Effects.{accepted-after, open-counts, text-counts, c
 use Rattle.document.proofs.Verdicts.{by-capacity, by-other-name, passes-close, going-on, has-nodes, all-ended, not-ended, idle-refused, refuses}
 use Rattle.document.proofs.WellFormed.{inner}
 use Rattle.document.proofs.Questions.{asked-ok, asked-err}
-use Rattle.document.specs.declared.Call.the-variants as call
 use Rattle.record_table.specs.declared.table.Record.{Record}
 use Rattle.record_table.specs.declared.table.RecordTable.{RecordTable}
 use Rattle.record_table.specs.Records.{blank, nodesOf, recordOf, written, Sound, tableNodes, tableSound, tableRoom}
