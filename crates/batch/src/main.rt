@@ -1,4 +1,6 @@
 // The tool for people: shows what a feed makes, and what a path text says.
+#![tactic(auto)]
+
 mod failure;
 mod list;
 mod path;

@@ -1,4 +1,6 @@
 // Cases: a lender's view of a table, proved, and limits, samples, damaged feeds, paths and the texts for people, run.
+#![tactic(auto)]
+
 #[cfg(test)]
 mod feeds;
 mod lending;

@@ -1,4 +1,6 @@
 // What a path says: axes, tests, steps, and chains of at most fifteen steps.
+#![tactic(auto)]
+
 ghost use Rattle.std.specs.Prelude.{◌≡◌};
 ghost use Rattle.chain.specs.Axes.{code_of, word_of, axis_of};
 

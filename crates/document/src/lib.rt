@@ -1,4 +1,6 @@
 // A document as its nodes in the order in which they begin, the calls that build it, and the laws of both.
+#![tactic(auto)]
+
 mod generic;
 mod growing;
 mod readable;

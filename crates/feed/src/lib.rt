@@ -1,4 +1,6 @@
 // Feeds: records of four bytes, each a call on a growing document.
+#![tactic(auto)]
+
 mod reading;
 mod records;
 

@@ -1,4 +1,6 @@
 // Path texts: their grammar, what each is read as, and the long form of a chain. Definitions and laws; the code stands above.
+#![tactic(auto)]
+
 ghost use Rattle.grammar.specs.Grammar.{PathsOnce};
 ghost use Rattle.grammar.specs.Readings.{ReadsOnce};
 ghost use Rattle.grammar.specs.LongForm.{ReadsBack};

@@ -1,4 +1,6 @@
 // Names of bytes by class, and name lists: which texts are one, the number of a name and the name of a number.
+#![tactic(auto)]
+
 mod classes;
 mod lines;
 mod list;

@@ -1,4 +1,6 @@
 // A document as text for people: a line for each node, indented by its level, and a sentence that says what was read.
+#![tactic(auto)]
+
 mod label;
 mod line;
 mod summary;

@@ -1,4 +1,6 @@
 // Reads each line of standard input as a path text, and prints its long form, or the number and the place of the refusal.
+#![tactic(auto)]
+
 use names::NameList;
 use paths::rewrite;
 use refusal::Refusal;

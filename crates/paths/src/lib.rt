@@ -1,4 +1,6 @@
 // Path texts: the reader, which makes a chain of one, and the long form, which makes one of a chain.
+#![tactic(auto)]
+
 mod long_form;
 mod parts;
 mod reader;

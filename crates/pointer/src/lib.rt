@@ -1,4 +1,6 @@
 // A place in a text, shown to people as two lines: the text, and below it a caret under the byte at the place.
+#![tactic(auto)]
+
 ghost use Rattle.std.specs.Prelude.{◌≡◌, length, take, drop, Some};
 ghost use Rattle.pointer.specs.Pointed.{column_of, columns, blanks, dots, pointed, CaretBelow, LinesFit};
 

@@ -1,54 +1,54 @@
 -- The number and the layer of each ground of refusal.
 use Rattle.std.specs.Prelude.{ℕ}
 use Rattle.refusal.specs.declared.Ground.{Ground}
-use Rattle.refusal.specs.declared.Ground.TheVariants as ground
+use Rattle.refusal.specs.declared.Ground.TheVariants.{BadCapacity, Ended, NotBegun, BadName, TooDeep, Full, OtherName, NoNode, BadEntry, TooSmall, LongText, NotPath, UnknownAxis, LongName, UnknownName, TooManySteps, BadLine, BadTable, NotEmpty, BadRecord}
 use Rattle.refusal.specs.declared.Layer.{Layer}
 use Rattle.refusal.specs.declared.Layer.TheVariants as layer
 use Rattle.refusal.specs.declared.Refusal.{Refusal}
 
 abbrev pub number_of : Ground → ℕ
-number_of ground.BadCapacity = 1
-number_of ground.Ended = 2
-number_of ground.NotBegun = 3
-number_of ground.BadName = 4
-number_of ground.TooDeep = 5
-number_of ground.Full = 6
-number_of ground.OtherName = 7
-number_of ground.NoNode = 8
-number_of ground.BadEntry = 9
-number_of ground.TooSmall = 10
-number_of ground.LongText = 11
-number_of ground.NotPath = 12
-number_of ground.UnknownAxis = 13
-number_of ground.LongName = 14
-number_of ground.UnknownName = 15
-number_of ground.TooManySteps = 16
-number_of ground.BadLine = 17
-number_of ground.BadTable = 18
-number_of ground.NotEmpty = 19
-number_of ground.BadRecord = 20
+number_of BadCapacity = 1
+number_of Ended = 2
+number_of NotBegun = 3
+number_of BadName = 4
+number_of TooDeep = 5
+number_of Full = 6
+number_of OtherName = 7
+number_of NoNode = 8
+number_of BadEntry = 9
+number_of TooSmall = 10
+number_of LongText = 11
+number_of NotPath = 12
+number_of UnknownAxis = 13
+number_of LongName = 14
+number_of UnknownName = 15
+number_of TooManySteps = 16
+number_of BadLine = 17
+number_of BadTable = 18
+number_of NotEmpty = 19
+number_of BadRecord = 20
 
 abbrev pub layer_of : Ground → Layer
-layer_of ground.BadCapacity = layer.Source
-layer_of ground.Ended = layer.Source
-layer_of ground.NotBegun = layer.Source
-layer_of ground.BadName = layer.Source
-layer_of ground.TooDeep = layer.Source
-layer_of ground.Full = layer.Source
-layer_of ground.OtherName = layer.Source
-layer_of ground.NoNode = layer.Source
-layer_of ground.BadEntry = layer.List
-layer_of ground.TooSmall = layer.List
-layer_of ground.LongText = layer.Path
-layer_of ground.NotPath = layer.Path
-layer_of ground.UnknownAxis = layer.Path
-layer_of ground.LongName = layer.Path
-layer_of ground.UnknownName = layer.Path
-layer_of ground.TooManySteps = layer.Path
-layer_of ground.BadLine = layer.Names
-layer_of ground.BadTable = layer.Table
-layer_of ground.NotEmpty = layer.Run
-layer_of ground.BadRecord = layer.Feed
+layer_of BadCapacity = layer.Source
+layer_of Ended = layer.Source
+layer_of NotBegun = layer.Source
+layer_of BadName = layer.Source
+layer_of TooDeep = layer.Source
+layer_of Full = layer.Source
+layer_of OtherName = layer.Source
+layer_of NoNode = layer.Source
+layer_of BadEntry = layer.List
+layer_of TooSmall = layer.List
+layer_of LongText = layer.Path
+layer_of NotPath = layer.Path
+layer_of UnknownAxis = layer.Path
+layer_of LongName = layer.Path
+layer_of UnknownName = layer.Path
+layer_of TooManySteps = layer.Path
+layer_of BadLine = layer.Names
+layer_of BadTable = layer.Table
+layer_of NotEmpty = layer.Run
+layer_of BadRecord = layer.Feed
 
-abbrev pub refusal : Ground → ℕ → Refusal
+abbrev pub refusal : (ground : Ground) (place : ℕ) → Refusal
 refusal g p = record { ground = g; place = p }

@@ -1,4 +1,6 @@
 // Why a call is refused, and where: twenty grounds, each with its number and its layer.
+#![tactic(auto)]
+
 ghost use Rattle.std.specs.Prelude.{◌≡◌};
 ghost use Rattle.refusal.specs.Refusals.{number_of, layer_of, refusal};
 
