@@ -3,32 +3,35 @@
 
 usage: tools/spell_names.py [--dry]      at the top of the repository, once, after the port's own script
 
-A function, a lemma, a field or a constructor is in snake case; a dash stays only between two names that are
-defined (here or in WORDS), and is an underscore elsewhere. A fact or a type is in upper camel case. Names that
-Rattle makes (goals, invariants, measures), names of src/ and names of std are left as they are. It stops where
-two names would fall together, or where a new name stands in a file already.
+A function, a lemma, a field or a constructor is in snake case; a dash stays in JOINED, where it joins the names
+of two functions, and is an underscore elsewhere. A fact or a type is in upper camel case. Names that Rattle
+makes (goals, invariants, measures), names of src/ and names of std are left as they are. It says where two names
+would fall together, or where a new name stands in a file already.
 """
 import os
 import re
 import sys
 
-# names of std that a lemma's name may join to one of ours
-WORDS = set("length take drop append encode encodes decimal map sum get_or set cond not".split())
-# names that would otherwise fall together with another
+# a lemma's name that joins two functions' names
+JOINED = set("length-line length-near length-nodes length-steps get_or-map nodes-set decoded-encoded".split())
+# names that would fall together with another, which is here still unspelled, and what they become
+BESIDE = {
+    "by_code": ("byCode", "by_code_lem"),
+    "node_at": ("nodeAt", "node_at_lem"),
+    "is_open": ("isOpen", "stays_open"),
+    "is_name": ("isName", "fits_name"),
+}
 SPECIAL = {
-    "by_code": "by_code_lem",
     "okOr": "ok_or_err",
-    "node_at": "node_at_lem",
-    "is_open": "stays_open",
-    "is_name": "fits_name",
     "open-count": "counts_open",
+    "step-text": "step_text_lem",
     "Not-path": "IsNotPath",
     "Bad-line": "IsBadLine",
 }
 
 NAME = r"[^\W\d][\w'-]*"
 TOKEN = re.compile(r"(?<![\w'«-])" + NAME)
-DEFINED = re.compile(r"^ *(?:abbrev |unfoldable |pub |data |record )*(" + NAME + r")(?: [^:]*)? : ")
+DEFINED = re.compile(r"^ *(?:abbrev |unfoldable |pub )*(" + NAME + r") : ")
 HEAD = re.compile(r"^ *(?:abbrev |pub )*(?:data|record) (" + NAME + r")")
 FIELD = re.compile(r"^ +(?:pub )?(" + NAME + r") : ")
 ALIAS = re.compile(r"[\w.'-]+ as (" + NAME + r")")
@@ -56,18 +59,16 @@ def camel(name):
     return "".join(part[:1].upper() + part[1:] for part in re.split("[-_]", name))
 
 
-def spelled(name, plain):
+def spelled(name):
     if name[0].isupper():
         return camel(name) if "-" in name or "_" in name else name
-    parts = [snake(p) for p in name.split("-")]
-    out = parts[0]
-    for before, part in zip(parts, parts[1:]):
-        out += ("-" if before in plain and part in plain else "_") + part
-    return out
+    return name if name in JOINED else snake(name.replace("-", "_"))
 
 
 def main():
-    dry = "--dry" in sys.argv
+    if sys.argv[1:] not in ([], ["--dry"]):
+        raise SystemExit(__doc__)
+    dry = sys.argv[1:] == ["--dry"]
     texts = {path: read(path) for path in files()}
     defined = set()
     for path, text in texts.items():
@@ -82,8 +83,8 @@ def main():
                         break
         for line in re.findall(r"(?m)^(?:ghost |pub )?use [^;\n]*", text):
             defined.update(ALIAS.findall(line))
-    plain = WORDS | {snake(n) for n in defined if "-" not in n}
-    new = {n: SPECIAL.get(n, spelled(n, plain)) for n in defined}
+    new = {n: SPECIAL.get(n, spelled(n)) for n in defined}
+    new.update((n, to) for n, (other, to) in BESIDE.items() if n in defined and other in defined)
     new = {n: to for n, to in new.items() if n != to}
     wrong = []
     by_target = {}
