@@ -11,10 +11,10 @@ use Rattle.document.specs.Document.{open_mark, nowhere, node_at, name_of, end_of
 use Rattle.document.specs.Calls.{unfit, ended, early, misnamed, adds, deep, other_name, mismatched, grounds, first_of, refused, element, text, with_end, accepted, unless, after, Grown, blank, more, run}
 use Rattle.document.specs.Laws.{WellFormed, GrownWell, Next, CallsNext, RunsStable}
 use Rattle.document.proofs.Tests.{impossible}
-use Rattle.document.proofs.WellFormed.{inner, no_inner, blank-well}
-use Rattle.document.proofs.Stability.{stable-same, stable_trans, next-same}
+use Rattle.document.proofs.WellFormed.{inner, no_inner, blank_well}
+use Rattle.document.proofs.Stability.{stable_same, stable_trans, next_same}
 use Rattle.document.proofs.Pushing.{Fresh, Pushed, push_next}
-use Rattle.document.proofs.Shutting.{Shut, shut-next}
+use Rattle.document.proofs.Shutting.{Shut, shut_next}
 use Rattle.document.specs.declared.Call.TheVariants as call
 
 abbrev Fails : Bool × Ground → Type 0
@@ -62,8 +62,8 @@ small_room : (room : ℕ) → unfit room ≡ false → room ≤ 4096
 small_room room e = ltb-false 4096 room (or_parts (eqb room 0) (ltb 4096 room) e).1
 
 -- where the document has not ended, some node is open unless none is there
-none-there : (ns : List Node) → ended ns ≡ false → innermost ns ≡ None → length ns ≡ 0
-none-there ns g e = elim (cases_lt 0 (length ns)) [
+none_there : (ns : List Node) → ended ns ≡ false → innermost ns ≡ None → length ns ≡ 0
+none_there ns g e = elim (cases_lt 0 (length ns)) [
   | inr l ↦ omega arith
   | inl l ↦ absurd (no_inner ns e 0 l (eqb-true (end_of ns 0) open_mark (elim (and_cases (ltb 0 (length ns)) (closed ns 0) g) [
     | inl h ↦ absurd (omega (arith, ltb-false 0 (length ns) h))
@@ -79,7 +79,7 @@ pushed ns x i f g r l d = record {
   here = get_or_push ns x nowhere (length ns) refl;
   parent = i;
   fresh = f;
-  first = none-there ns g;
+  first = none_there ns g;
   rooted = r;
   room = l;
   fits = λ p e. leb-false 63 (level_of ns p) (ap (deep ns) (sym e) ∙ d);
@@ -90,7 +90,7 @@ shut ns p e = record {
   long = length-set ns p (with_end (node_at ns p) (closed_count ns));
   other = λ n ne. get_or-set_other ns p n (with_end (node_at ns p) (closed_count ns)) nowhere ne;
   here = get_or-set_same ns p (with_end (node_at ns p) (closed_count ns)) nowhere (inner ns p e).there;
-  innermost-was = e;
+  innermost_was = e;
 }
 
 -- what each kind of call does where it is accepted
@@ -107,8 +107,8 @@ module _ (room : ℕ) (ns : List Node) where
       (omega (arith, small_room room t.fit, leb-false room (length ns) t.spare))
       t.shallow
 
-  pub text-pushed : refused room ns call.Text ≡ None → Pushed ns (accepted ns call.Text) (text (innermost ns) (closed_count ns))
-  text-pushed e =
+  pub text_pushed : refused room ns call.Text ≡ None → Pushed ns (accepted ns call.Text) (text (innermost ns) (closed_count ns))
+  text_pushed e =
       let t = passed room ns call.Text e in
       pushed ns (text (innermost ns) (closed_count ns)) refl
       (inr (refl, refl, refl))
@@ -124,7 +124,7 @@ module _ (room : ℕ) (ns : List Node) where
       t = passed room ns (call.Close name) e
 
       go : (o : Option ℕ) → innermost ns ≡ o → (p : ℕ) × (innermost ns ≡ Some p)
-      go None i = absurd (eqb-false (length ns) 0 t.begun (none-there ns t.going i))
+      go None i = absurd (eqb-false (length ns) 0 t.begun (none_there ns t.going i))
       go (Some p) i = (p, i)
 
   pub close_named : (name p : ℕ) → refused room ns (call.Close name) ≡ None → innermost ns ≡ Some p → name_of ns p ≡ name
@@ -135,10 +135,10 @@ module _ (room : ℕ) (ns : List Node) where
   pub close_shut : (name p : ℕ) → innermost ns ≡ Some p → Shut ns (accepted ns (call.Close name)) p
   close_shut name p i = rw i (shut ns p i)
 
-accepted-moves : (room : ℕ) (ns : List Node) (c : Call) → refused room ns c ≡ None → Moved ns (accepted ns c)
-accepted-moves room ns (call.Open name) e = pushes (element (innermost ns) name) (open_pushed room ns name e)
-accepted-moves room ns call.Text e = pushes (text (innermost ns) (closed_count ns)) (text-pushed room ns e)
-accepted-moves room ns (call.Close name) e =
+accepted_moves : (room : ℕ) (ns : List Node) (c : Call) → refused room ns c ≡ None → Moved ns (accepted ns c)
+accepted_moves room ns (call.Open name) e = pushes (element (innermost ns) name) (open_pushed room ns name e)
+accepted_moves room ns call.Text e = pushes (text (innermost ns) (closed_count ns)) (text_pushed room ns e)
+accepted_moves room ns (call.Close name) e =
     let p = close_open room ns name e in
     shuts p.0 (close_shut room ns name p.0 p.1)
 
@@ -146,27 +146,27 @@ pub moves : (room : ℕ) (ns : List Node) (c : Call) → Moved ns (after room ns
 moves room ns c = go (refused room ns c) refl
   where
     go : (o : Option Ground) → refused room ns c ≡ o → Moved ns (unless o (accepted ns c) ns)
-    go None e = accepted-moves room ns c e
+    go None e = accepted_moves room ns c e
     go (Some g) e = refuses
 
 pub moved_next : {ns new : List Node} → WellFormed ns → Moved ns new → Next ns new
-moved_next {ns} w refuses = next-same ns w
+moved_next {ns} w refuses = next_same ns w
 moved_next {ns} {new} w (pushes x s) = push_next ns new x w s
-moved_next {ns} {new} w (shuts p s) = shut-next ns new p w s
+moved_next {ns} {new} w (shuts p s) = shut_next ns new p w s
 
-pub calls-next : CallsNext
-calls-next room ns c w = moved_next w (moves room ns c)
+pub calls_next : CallsNext
+calls_next room ns c w = moved_next w (moves room ns c)
 
-pub grown-well : GrownWell
-grown-well ns g = go g
+pub grown_well : GrownWell
+grown_well ns g = go g
   where
     go : {ns : List Node} → Grown ns → WellFormed ns
-    go blank = blank-well
-    go (more {ns} room c g) = (calls-next room ns c (go g)).well
+    go blank = blank_well
+    go (more {ns} room c g) = (calls_next room ns c (go g)).well
 
 pub runs_stable : RunsStable
-runs_stable room ns [] w = (stable-same ns, w)
+runs_stable room ns [] w = (stable_same ns, w)
 runs_stable room ns (c ∷ cs) w =
-    let n = calls-next room ns c w in
+    let n = calls_next room ns c w in
     let r = runs_stable room (after room ns c) cs n.well in
     (stable_trans ns (after room ns c) (run room (after room ns c) cs) n.stable r.0, r.1)

@@ -9,17 +9,17 @@ use Rattle.document.specs.Document.{open_mark, parent_of, is_open, innermost, cl
 use Rattle.document.specs.Calls.{refused, or_zero, target, verdict, answered, element, text, accepted, unless, after}
 use Rattle.document.specs.Laws.{WellFormed, Counts, Leaves, CallsEffect}
 use Rattle.document.proofs.Tests.{impossible}
-use Rattle.document.proofs.WellFormed.{inner, closed-few}
-use Rattle.document.proofs.Calls.{open_pushed, text-pushed, close_open, close_named, close_shut}
+use Rattle.document.proofs.WellFormed.{inner, closed_few}
+use Rattle.document.proofs.Calls.{open_pushed, text_pushed, close_open, close_named, close_shut}
 use Rattle.document.specs.declared.Call.TheVariants as call
 use Rattle.document.proofs.Pushing as pushing
 use Rattle.document.proofs.Shutting as shutting
 
-pub accepted-after : (room : ℕ) (ns : List Node) (c : Call) → refused room ns c ≡ None → after room ns c ≡ accepted ns c
-accepted-after room ns c e = ap (λ (o : Option Ground). unless o (accepted ns c) ns) e
+pub accepted_after : (room : ℕ) (ns : List Node) (c : Call) → refused room ns c ≡ None → after room ns c ≡ accepted ns c
+accepted_after room ns c e = ap (λ (o : Option Ground). unless o (accepted ns c) ns) e
 
-pub refused-after : (room : ℕ) (ns : List Node) (c : Call) (g : Ground) → refused room ns c ≡ Some g → after room ns c ≡ ns
-refused-after room ns c g e = ap (λ (o : Option Ground). unless o (accepted ns c) ns) e
+pub refused_after : (room : ℕ) (ns : List Node) (c : Call) (g : Ground) → refused room ns c ≡ Some g → after room ns c ≡ ns
+refused_after room ns c g e = ap (λ (o : Option Ground). unless o (accepted ns c) ns) e
 
 pub answered_ok : (room : ℕ) (ns : List Node) (c : Call) (n : ℕ) → answered room ns c ≡ Ok n → (refused room ns c ≡ None) × (target ns c ≡ n)
 answered_ok room ns c n a = go (refused room ns c) refl a
@@ -42,29 +42,29 @@ module _ (room : ℕ) (ns : List Node) (w : WellFormed ns) where
       let x = element (innermost ns) name in
       let s = open_pushed room ns name e in
       record {
-        node-count = s.longer;
-        end-count = pushing.count-new ns (accepted ns (call.Open name)) x w s;
-        innermost-is = pushing.inner-new ns (accepted ns (call.Open name)) x w s;
+        node_count = s.longer;
+        end_count = pushing.count_new ns (accepted ns (call.Open name)) x w s;
+        innermost_is = pushing.inner_new ns (accepted ns (call.Open name)) x w s;
       }
 
   pub text_counts : refused room ns call.Text ≡ None → Counts (accepted ns call.Text) (suc (length ns)) (suc (closed_count ns)) (innermost ns)
   text_counts e =
       let x = text (innermost ns) (closed_count ns) in
-      let s = text-pushed room ns e in
-      let t : is_open x ≡ false = ne_eqb (closed_count ns) open_mark (λ o. omega (arith, closed-few ns, w.bounded)) in
+      let s = text_pushed room ns e in
+      let t : is_open x ≡ false = ne_eqb (closed_count ns) open_mark (λ o. omega (arith, closed_few ns, w.bounded)) in
       record {
-        node-count = s.longer;
-        end-count = pushing.count-new ns (accepted ns call.Text) x w s ∙ rw t;
-        innermost-is = pushing.inner-new ns (accepted ns call.Text) x w s ∙ rw t;
+        node_count = s.longer;
+        end_count = pushing.count_new ns (accepted ns call.Text) x w s ∙ rw t;
+        innermost_is = pushing.inner_new ns (accepted ns call.Text) x w s ∙ rw t;
       }
 
   pub close_counts : (name p : ℕ) → innermost ns ≡ Some p → Counts (accepted ns (call.Close name)) (length ns) (suc (closed_count ns)) (parent_of ns p)
   close_counts name p i =
       let s = close_shut room ns name p i in
       record {
-        node-count = s.long;
-        end-count = shutting.count-new ns (accepted ns (call.Close name)) p w s;
-        innermost-is = shutting.inner-new ns (accepted ns (call.Close name)) p w s;
+        node_count = s.long;
+        end_count = shutting.count_new ns (accepted ns (call.Close name)) p w s;
+        innermost_is = shutting.inner_new ns (accepted ns (call.Close name)) p w s;
       }
 
   -- a new node's level and the ends given so far make its number
@@ -72,8 +72,8 @@ module _ (room : ℕ) (ns : List Node) (w : WellFormed ns) where
       → closed_count ns + level_of (accepted ns (call.Open name)) (length ns) ≡ length ns
   open_level name e = pushing.lev_new ns (accepted ns (call.Open name)) (element (innermost ns) name) w (open_pushed room ns name e)
 
-  pub text-level : refused room ns call.Text ≡ None → closed_count ns + level_of (accepted ns call.Text) (length ns) ≡ length ns
-  text-level e = pushing.lev_new ns (accepted ns call.Text) (text (innermost ns) (closed_count ns)) w (text-pushed room ns e)
+  pub text_level : refused room ns call.Text ≡ None → closed_count ns + level_of (accepted ns call.Text) (length ns) ≡ length ns
+  text_level e = pushing.lev_new ns (accepted ns call.Text) (text (innermost ns) (closed_count ns)) w (text_pushed room ns e)
 
   leaves : (c : Call) (n : ℕ) → refused room ns c ≡ None → target ns c ≡ n → Leaves ns c n
   leaves (call.Open name) n e t = (sym t, open_counts name e)
@@ -83,16 +83,16 @@ module _ (room : ℕ) (ns : List Node) (w : WellFormed ns) where
       let i : innermost ns ≡ Some n = q.1 ∙ ap Some (sym (ap or_zero q.1) ∙ t) in
       (i, close_named room ns name n e i, close_counts name n i)
 
-  new-level : (c : Call) (n : ℕ) → refused room ns c ≡ None → target ns c ≡ n → length ns ≤ n → closed_count ns + level_of (accepted ns c) n ≡ n
-  new-level (call.Open name) n e t l = rw (← t) (open_level name e)
-  new-level call.Text n e t l = rw (← t) (text-level e)
-  new-level (call.Close name) n e t l =
+  new_level : (c : Call) (n : ℕ) → refused room ns c ≡ None → target ns c ≡ n → length ns ≤ n → closed_count ns + level_of (accepted ns c) n ≡ n
+  new_level (call.Open name) n e t l = rw (← t) (open_level name e)
+  new_level call.Text n e t l = rw (← t) (text_level e)
+  new_level (call.Close name) n e t l =
       let q = leaves (call.Close name) n e t in
       absurd (omega (arith, (inner ns n q.0).there))
 
 pub calls_effect : CallsEffect
 calls_effect room ns c w = record {
-  on_err = λ r a. let e = answered_err room ns c r a in refused-after room ns c e.0 e.1;
-  on_ok = λ n a. let o = answered_ok room ns c n a in (accepted-after room ns c o.0, leaves room ns w c n o.0 o.1);
-  new-level = λ n a. let o = answered_ok room ns c n a in new-level room ns w c n o.0 o.1;
+  on_err = λ r a. let e = answered_err room ns c r a in refused_after room ns c e.0 e.1;
+  on_ok = λ n a. let o = answered_ok room ns c n a in (accepted_after room ns c o.0, leaves room ns w c n o.0 o.1);
+  new_level = λ n a. let o = answered_ok room ns c n a in new_level room ns w c n o.0 o.1;
 }

@@ -14,13 +14,13 @@ module _ {X : Type 0} (ns : List Node) (n : ℕ) (f : ℕ → X) where
   pub asked_at : n < length ns → asked ns n f ≡ Ok (f n)
   asked_at l = let t : ltb n (length ns) ≡ true = lt-ltb n (length ns) l in rw t
 
-  pub asked-past : length ns ≤ n → asked ns n f ≡ Err (refusal NoNode n)
-  asked-past l = let t : ltb n (length ns) ≡ false = le-ltb n (length ns) l in rw t
+  pub asked_past : length ns ≤ n → asked ns n f ≡ Err (refusal NoNode n)
+  asked_past l = let t : ltb n (length ns) ≡ false = le-ltb n (length ns) l in rw t
 
   pub asked_ok : (x : X) → asked ns n f ≡ Ok x → (n < length ns) × (f n ≡ x)
   asked_ok x e = elim (cases_lt n (length ns)) [
     | inl l ↦ let a = asked_at l in (l, cc)
-    | inr l ↦ let a = asked-past l in impossible (cc)
+    | inr l ↦ let a = asked_past l in impossible (cc)
   ]
 
   pub asked_err : (e : Refusal) → asked ns n f ≡ Err e → length ns ≤ n

@@ -12,17 +12,17 @@ use Rattle.document.specs.declared.Call.TheVariants.{Open}
 use Rattle.document.specs.Document.{closed, innermost, one_above, level_of}
 use Rattle.document.specs.Calls.{unfit, ended, early, misnamed, adds, deep, mismatched, refused, idle, next_level, target, verdict, Called}
 use Rattle.document.specs.Laws.{WellFormed}
-use Rattle.document.proofs.Tests.{impossible, end-closed}
-use Rattle.document.proofs.WellFormed.{inner, no_inner, closed-before}
-use Rattle.document.proofs.Effects.{refused-after}
+use Rattle.document.proofs.Tests.{impossible, end_closed}
+use Rattle.document.proofs.WellFormed.{inner, no_inner, closed_before}
+use Rattle.document.proofs.Effects.{refused_after}
 use Rattle.document.proofs.Laws as laws
 
-pub bad-name : (name : ℕ) → (name ≡ 0) ⊎ ((name ≡ 0 → ⊥) × (65534 < name)) → misnamed (Open name) ≡ true
-bad-name name (inl e) = grind (arith, nat_tests)
-bad-name name (inr e) = grind (arith, nat_tests)
+pub bad_name : (name : ℕ) → (name ≡ 0) ⊎ ((name ≡ 0 → ⊥) × (65534 < name)) → misnamed (Open name) ≡ true
+bad_name name (inl e) = grind (arith, nat_tests)
+bad_name name (inr e) = grind (arith, nat_tests)
 
-pub good-name : (name : ℕ) → (name ≡ 0 → ⊥) → name ≤ 65534 → misnamed (Open name) ≡ false
-good-name name a b = grind (arith, nat_tests)
+pub good_name : (name : ℕ) → (name ≡ 0 → ⊥) → name ≤ 65534 → misnamed (Open name) ≡ false
+good_name name a b = grind (arith, nat_tests)
 
 module _ (room : ℕ) (ns : List Node) (c : Call) where
   pub by_capacity : unfit room ≡ true → refused room ns c ≡ Some BadCapacity
@@ -35,9 +35,9 @@ module _ (room : ℕ) (ns : List Node) (c : Call) where
     by_end a = rw (fit, a)
 
     module _ (going : ended ns ≡ false) where
-      pub by-begin : early ns c ≡ true → refused room ns c ≡ Some NotBegun
+      pub by_begin : early ns c ≡ true → refused room ns c ≡ Some NotBegun
       unfolding refused
-      by-begin a = rw (fit, going, a)
+      by_begin a = rw (fit, going, a)
 
       module _ (begun : early ns c ≡ false) where
         pub by_name : misnamed c ≡ true → refused room ns c ≡ Some BadName
@@ -49,17 +49,17 @@ module _ (room : ℕ) (ns : List Node) (c : Call) where
           unfolding refused
           by_depth a d = rw (fit, going, begun, named, a, d)
 
-          by-room : adds c ≡ true → deep ns (innermost ns) ≡ false → leb room (length ns) ≡ true → refused room ns c ≡ Some Full
+          by_room : adds c ≡ true → deep ns (innermost ns) ≡ false → leb room (length ns) ≡ true → refused room ns c ≡ Some Full
           unfolding refused
-          by-room a d l = rw (fit, going, begun, named, a, d, l)
+          by_room a d l = rw (fit, going, begun, named, a, d, l)
 
           passes : adds c ≡ true → deep ns (innermost ns) ≡ false → leb room (length ns) ≡ false → mismatched ns c ≡ false → refused room ns c ≡ None
           unfolding refused
           passes a d l m = rw (fit, going, begun, named, a, d, l, m)
 
-          pub by-other-name : adds c ≡ false → mismatched ns c ≡ true → refused room ns c ≡ Some OtherName
+          pub by_other_name : adds c ≡ false → mismatched ns c ≡ true → refused room ns c ≡ Some OtherName
           unfolding refused
-          by-other-name a m = rw (fit, going, begun, named, a, m)
+          by_other_name a m = rw (fit, going, begun, named, a, m)
 
           pub passes_close : adds c ≡ false → mismatched ns c ≡ false → refused room ns c ≡ None
           unfolding refused
@@ -73,12 +73,12 @@ module _ (room : ℕ) (ns : List Node) (c : Call) where
                   → cond d (Err (refusal TooDeep 0)) (cond l (Err (refusal Full 0)) (Ok (one_above (level_of ns) (innermost ns)))) ≡ Err e
                   → (g : Ground) × (refused room ns c ≡ Some g) × (e ≡ refusal g 0)
               go true p l q h = (TooDeep, by_depth a p, cc)
-              go false p true q h = (Full, by-room a p q, cc)
+              go false p true q h = (Full, by_room a p q, cc)
               go false p false q h = impossible (cc)
 
-          pub passes-level : adds c ≡ true → mismatched ns c ≡ false → (level : ℕ) → next_level room ns ≡ Ok level
+          pub passes_level : adds c ≡ true → mismatched ns c ≡ false → (level : ℕ) → next_level room ns ≡ Ok level
               → (refused room ns c ≡ None) × (level ≡ one_above (level_of ns) (innermost ns)) × (length ns < room)
-          passes-level a m level n = go (deep ns (innermost ns)) refl (leb room (length ns)) refl n
+          passes_level a m level n = go (deep ns (innermost ns)) refl (leb room (length ns)) refl n
             where
               go : (d : Bool) → deep ns (innermost ns) ≡ d → (l : Bool) → leb room (length ns) ≡ l
                   → cond d (Err (refusal TooDeep 0)) (cond l (Err (refusal Full 0)) (Ok (one_above (level_of ns) (innermost ns)))) ≡ Ok level
@@ -96,14 +96,14 @@ module _ (room : ℕ) (ns : List Node) (level : ℕ) (is : level ≡ one_above (
       go None e = rw e
       go (Some p) e = rw e (grind (arith, nat_tests))
 
-  pub level-deep : 63 < level → next_level room ns ≡ Err (refusal TooDeep 0)
-  level-deep l = let d = deep_is ∙ lt-ltb 63 level l in rw d
+  pub level_deep : 63 < level → next_level room ns ≡ Err (refusal TooDeep 0)
+  level_deep l = let d = deep_is ∙ lt-ltb 63 level l in rw d
 
-  pub level-full : level ≤ 63 → room ≤ length ns → next_level room ns ≡ Err (refusal Full 0)
-  level-full l f = let d = deep_is ∙ le-ltb 63 level l in let e = le-leb room (length ns) f in rw (d, e)
+  pub level_full : level ≤ 63 → room ≤ length ns → next_level room ns ≡ Err (refusal Full 0)
+  level_full l f = let d = deep_is ∙ le-ltb 63 level l in let e = le-leb room (length ns) f in rw (d, e)
 
-  pub level-fits : level ≤ 63 → length ns < room → next_level room ns ≡ Ok level
-  level-fits l f = let d = deep_is ∙ le-ltb 63 level l in let e = lt-leb room (length ns) f in rw (d, e, is) refl
+  pub level_fits : level ≤ 63 → length ns < room → next_level room ns ≡ Ok level
+  level_fits l f = let d = deep_is ∙ le-ltb 63 level l in let e = lt-leb room (length ns) f in rw (d, e, is) refl
 
 module _ (ns : List Node) (w : WellFormed ns) where
   -- where an element is open, the document has begun and not ended
@@ -115,7 +115,7 @@ module _ (ns : List Node) (w : WellFormed ns) where
       go true b =
           let t = and_parts (ltb 0 (length ns)) (closed ns 0) b in
           let l : 0 < length ns = omega (arith, (inner ns p e).there) in
-          let n = laws.ended_all ns w l (closed-before ns w 0 (record { there = l; ended = t.1 })) in
+          let n = laws.ended_all ns w l (closed_before ns w 0 (record { there = l; ended = t.1 })) in
           impossible (cc)
 
   pub has_nodes : (p : ℕ) → innermost ns ≡ Some p → eqb (length ns) 0 ≡ false
@@ -125,17 +125,17 @@ module _ (ns : List Node) (w : WellFormed ns) where
   pub all_ended : innermost ns ≡ None → 0 < length ns → ended ns ≡ true
   all_ended e l =
       let a = lt-ltb 0 (length ns) l in
-      let b = (end-closed ns 0 l (no_inner ns e 0 l)).ended in
+      let b = (end_closed ns 0 l (no_inner ns e 0 l)).ended in
       rw (a, b)
 
-  pub not-ended : length ns ≡ 0 → ended ns ≡ false
-  not-ended e = rw e
+  pub not_ended : length ns ≡ 0 → ended ns ≡ false
+  not_ended e = rw e
 
-  pub idle-refused : (room : ℕ) (c : Call) → unfit room ≡ false → early ns c ≡ eqb (length ns) 0 → innermost ns ≡ None → refused room ns c ≡ Some (idle (length ns))
-  idle-refused room c fit when e = go (eqb (length ns) 0) refl
+  pub idle_refused : (room : ℕ) (c : Call) → unfit room ≡ false → early ns c ≡ eqb (length ns) 0 → innermost ns ≡ None → refused room ns c ≡ Some (idle (length ns))
+  idle_refused room c fit when e = go (eqb (length ns) 0) refl
     where
       go : (b : Bool) → eqb (length ns) 0 ≡ b → refused room ns c ≡ Some (cond b NotBegun Ended)
-      go true b = by-begin room ns c fit (not-ended (eqb-true (length ns) 0 b)) (when ∙ b)
+      go true b = by_begin room ns c fit (not_ended (eqb-true (length ns) 0 b)) (when ∙ b)
       go false b = by_end room ns c fit (all_ended e (grind (arith, nat_tests)))
 
 -- a refused call leaves the value as it is
@@ -143,7 +143,7 @@ pub refuses : {S : Type 0} {nodes : S → List Node} {sound : S → Type 0} {roo
     → sound was → (g : Ground) → refused (room was) (nodes was) c ≡ Some g → Called nodes sound room was c (Err (refusal g 0)) was
 refuses {nodes = nodes} {room = room} {was = was} {c = c} s g e = record {
   answer = sym (ap (λ (o : Option Ground). verdict o (target (nodes was) c)) e);
-  leaves = sym (refused-after (room was) (nodes was) c g e);
-  same-room = refl;
+  leaves = sym (refused_after (room was) (nodes was) c g e);
+  same_room = refl;
   still_sound = s;
 }

@@ -133,5 +133,5 @@ run room ns (c ∷ cs) = run room (after room ns c) cs
 pub record Called {S : Type 0} (nodes : S → List Node) (sound : S → Type 0) (room : S → ℕ) (was : S) (c : Call) (r : Result ℕ Refusal) (is : S) : Type 0 where
   pub answer : r ≡ answered (room was) (nodes was) c
   pub leaves : nodes is ≡ after (room was) (nodes was) c
-  pub same-room : room is ≡ room was
+  pub same_room : room is ≡ room was
   pub still_sound : sound is

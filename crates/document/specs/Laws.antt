@@ -16,17 +16,17 @@ pub record WellFormed (ns : List Node) : Type 0 where
   pub bounded : length ns ≤ 4096
   pub named : (n : ℕ) → n < length ns → Named (node_at ns n)
   -- parents
-  pub root-element : 0 < length ns → kind_of ns 0 ≡ Element
-  pub one-root : (n : ℕ) → n < length ns → parent_of ns n ≡ None → n ≡ 0
-  pub parent-first : (n p : ℕ) → n < length ns → parent_of ns n ≡ Some p → p < n
-  pub parent-element : (n p : ℕ) → n < length ns → parent_of ns n ≡ Some p → kind_of ns p ≡ Element
+  pub root_element : 0 < length ns → kind_of ns 0 ≡ Element
+  pub one_root : (n : ℕ) → n < length ns → parent_of ns n ≡ None → n ≡ 0
+  pub parent_first : (n p : ℕ) → n < length ns → parent_of ns n ≡ Some p → p < n
+  pub parent_element : (n p : ℕ) → n < length ns → parent_of ns n ≡ Some p → kind_of ns p ≡ Element
   pub shallow : (n : ℕ) → n < length ns → level_of ns n ≤ 63
   -- ends: below the count of closed nodes, or the mark
   pub ends : (n : ℕ) → n < length ns → (end_of ns n ≡ open_mark) ⊎ (end_of ns n < closed_count ns)
-  pub text-ends : (n : ℕ) → n < length ns → kind_of ns n ≡ Text → end_of ns n < closed_count ns
+  pub text_ends : (n : ℕ) → n < length ns → kind_of ns n ≡ Text → end_of ns n < closed_count ns
   pub one_end : (m n : ℕ) → m < n → n < length ns → end_of ns m ≡ end_of ns n → end_of ns m ≡ open_mark
   -- a node ends no later than its parent, and what begins between the two ends before it
-  pub parent-last : (n p : ℕ) → n < length ns → parent_of ns n ≡ Some p → end_of ns n ≤ end_of ns p
+  pub parent_last : (n p : ℕ) → n < length ns → parent_of ns n ≡ Some p → end_of ns n ≤ end_of ns p
   pub between : (n p y : ℕ) → n < length ns → parent_of ns n ≡ Some p → p < y → y < n → end_of ns y < end_of ns n
   -- of what begins after a closed node y, the nodes up to its end + level are those that end no later
   pub reach_below : (y z : ℕ) → y < z → z < length ns → z ≤ end_of ns y + level_of ns y → end_of ns z ≤ end_of ns y
@@ -48,7 +48,7 @@ pub data Above (ns : List Node) : ℕ → ℕ → Type 0 where
 
 -- The laws of a well formed document.
 pub record Laws (ns : List Node) : Type 0 where
-  pub root-parent : parent_of ns 0 ≡ None
+  pub root_parent : parent_of ns 0 ≡ None
   pub ends_distinct : (m n : ℕ) → m < length ns → n < length ns → end_of ns m < closed_count ns → end_of ns m ≡ end_of ns n → m ≡ n
   -- subtrees are intervals, and the ends count them
   pub last_from : (y : ℕ) → y < length ns → y ≤ last_of ns y
@@ -84,16 +84,16 @@ pub record Closed (ns : List Node) (z : ℕ) : Type 0 where
 -- z is closed in new and was not in ns: it was open, or was not there
 pub record Closing (ns new : List Node) (z : ℕ) : Type 0 where
   pub now : Closed new z
-  pub not-before : Closed ns z → ⊥
+  pub not_before : Closed ns z → ⊥
 
 -- new is a later state of ns: of the old nodes only open ones have changed, by an end, and nothing between nodes has
 pub record Stable (ns new : List Node) : Type 0 where
   pub longer : length ns ≤ length new
-  pub same-parent : (n : ℕ) → n < length ns → parent_of new n ≡ parent_of ns n
+  pub same_parent : (n : ℕ) → n < length ns → parent_of new n ≡ parent_of ns n
   pub same_kind : (n : ℕ) → n < length ns → kind_of new n ≡ kind_of ns n
   pub same_name : (n : ℕ) → n < length ns → name_of new n ≡ name_of ns n
-  pub same-level : (n : ℕ) → n < length ns → level_of new n ≡ level_of ns n
-  pub same-below : (y z : ℕ) → y < length ns → z < length ns → below new y z ≡ below ns y z
+  pub same_level : (n : ℕ) → n < length ns → level_of new n ≡ level_of ns n
+  pub same_below : (y z : ℕ) → y < length ns → z < length ns → below new y z ≡ below ns y z
   pub same_end : (n : ℕ) → Closed ns n → end_of new n ≡ end_of ns n
 
 -- new comes of ns by one call: at most one node more, and at most one that closes, which ends after all that were closed
@@ -112,9 +112,9 @@ RunsStable = (room : ℕ) (ns : List Node) (cs : List Call) → WellFormed ns �
 
 -- how many nodes a document has, how many of them are closed, and the innermost open one
 pub record Counts (ns : List Node) (nodes ends : ℕ) (inner : Option ℕ) : Type 0 where
-  pub node-count : length ns ≡ nodes
-  pub end-count : closed_count ns ≡ ends
-  pub innermost-is : innermost ns ≡ inner
+  pub node_count : length ns ≡ nodes
+  pub end_count : closed_count ns ≡ ends
+  pub innermost_is : innermost ns ≡ inner
 
 -- what an accepted call that begins or closes node n leaves
 abbrev pub Leaves : List Node → Call → ℕ → Type 0
@@ -128,7 +128,7 @@ pub record Effect (room : ℕ) (ns : List Node) (c : Call) : Type 0 where
   pub on_err : (e : Refusal) → answered room ns c ≡ Err e → after room ns c ≡ ns
   pub on_ok : (n : ℕ) → answered room ns c ≡ Ok n → (after room ns c ≡ accepted ns c) × Leaves ns c n
   -- what begins has as many levels above it as there are open nodes
-  pub new-level : (n : ℕ) → answered room ns c ≡ Ok n → length ns ≤ n → closed_count ns + level_of (accepted ns c) n ≡ n
+  pub new_level : (n : ℕ) → answered room ns c ≡ Ok n → length ns ≤ n → closed_count ns + level_of (accepted ns c) n ≡ n
 
 abbrev pub CallsEffect : Type 0
 CallsEffect = (room : ℕ) (ns : List Node) (c : Call) → WellFormed ns → Effect room ns c

@@ -4,7 +4,7 @@ use Rattle.document.specs.declared.Node.{Node}
 use Rattle.document.specs.declared.Call.{Call}
 use Rattle.document.specs.Calls.{Called, Grown}
 use Rattle.document.specs.Laws.{Performed}
-use Rattle.document.proofs.Calls.{grown-well, calls-next}
+use Rattle.document.proofs.Calls.{grown_well, calls_next}
 use Rattle.document.proofs.Lawful.{well_lawful}
 use Rattle.document.proofs.generic.perform.Goals as goal
 
@@ -14,8 +14,8 @@ performed {nodes = nodes} {sound = sound} {room = room} {was = was} {is = is} {c
     let k : Called nodes sound room was c r is = subst (λ (x : Call). Called nodes sound room was x r is) (sym e) (h s) in
     record {
       called = k;
-      next = rw k.leaves (calls-next (room was) (nodes was) c (grown-well (nodes was) (grown was s)));
-      laws = well_lawful (nodes is) (grown-well (nodes is) (grown is k.still_sound));
+      next = rw k.leaves (calls_next (room was) (nodes was) c (grown_well (nodes was) (grown was s)));
+      laws = well_lawful (nodes is) (grown_well (nodes is) (grown is k.still_sound));
     }
 
 pub returns-in-Open : goal.returns-in-Open
