@@ -21,7 +21,7 @@ pub record Sound (rs : List Record) (used : ℕ) (inner : Option ℕ) : Type 0 w
   pub fits : used ≤ length rs
   pub grown : Grown (nodes_of rs used)
   pub levels : (n : ℕ) → n < used → (slice_index_or rs n blank).level ≡ level_of (nodes_of rs used) n
-  pub inner-is : inner ≡ innermost (nodes_of rs used)
+  pub inner_is : inner ≡ innermost (nodes_of rs used)
 
 -- the record of node n
 abbrev pub record_of : List Node → ℕ → Record

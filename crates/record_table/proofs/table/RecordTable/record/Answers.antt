@@ -1,6 +1,6 @@
 use Rattle.std.proofs.Common.{Ok, Err, sym, ap, ◌∙◌, arith}
 use Rattle.std.proofs.lemmas.Bool.Decides.{nat_tests}
-use Rattle.document.proofs.Questions.{asked_at, asked-past}
+use Rattle.document.proofs.Questions.{asked_at, asked_past}
 use Rattle.record_table.specs.Records.{record_of, table_nodes}
 use Rattle.record_table.proofs.Looks.{record_at}
 use Rattle.record_table.proofs.Steps.{size}
@@ -19,7 +19,7 @@ pub returns-else-node-self : goal.returns-else-node-self
 returns-else-node-self c =
     let t = c.args.self.now in
     record {
-      value = λ s. ap Err c.at.ensures ∙ sym (asked-past (table_nodes t) c.args.node (record_of (table_nodes t)) (elim c.else-node-self.branch [
+      value = λ s. ap Err c.at.ensures ∙ sym (asked_past (table_nodes t) c.args.node (record_of (table_nodes t)) (elim c.else-node-self.branch [
         | else-node-self-via-then-node-self+else-node-self-2 w ↦ omega (arith, size _ _ _ s, w.if-node-self-2.false, s.fits)
         | else-node-self-via-else-node-self w ↦ omega (arith, size _ _ _ s, w.if-node-self.false)
       ]));
