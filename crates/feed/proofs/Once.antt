@@ -17,11 +17,11 @@ head_same c d xs ys e =
     (cc, sym (drop_at (encoded c) xs 4 (four c)) ∙ ap (drop 4) e ∙ drop_at (encoded d) ys 4 (four d))
 
 -- no reading ends at the record of a call that is accepted
-not-here : {A : Type 0} (room : ℕ) (ns : List Node) (i : ℕ) (c : Call) (xs rest : List ℕ) (stop : Option Refusal) → rest ≡ encoded c ++ xs
+not_here : {A : Type 0} (room : ℕ) (ns : List Node) (i : ℕ) (c : Call) (xs rest : List ℕ) (stop : Option Refusal) → rest ≡ encoded c ++ xs
     → (n : ℕ) → answered room ns c ≡ Ok n → Ends room ns i rest stop → A
-not-here room ns i c xs rest None e n a h =
+not_here room ns i c xs rest None e n a h =
     absurd (omega (arith, ap length e, ap length h, length-append (encoded c) xs, four c))
-not-here room ns i c xs rest (Some x) e n a h =
+not_here room ns i c xs rest (Some x) e n a h =
     let here : take 4 rest ≡ encoded c = ap (take 4) e ∙ take_at (encoded c) xs 4 (four c) in
     let again : answered room ns c ≡ Err x = sym (ap (answered_by room ns i) (ap decoded here ∙ decoded-encoded c)) ∙ h.1 in
     impossible (cc)
@@ -38,9 +38,9 @@ one_reading : (room : ℕ) (ns : List Node) (i j k : ℕ) (cs ds : List Call) (r
 one_reading room ns i j k [] [] rest rest' stop stop' e a b p q h l =
     (refl, same_stop room ns j rest stop stop' h (rw (p, ← q, e) l))
 one_reading room ns i j k [] (d ∷ ds) rest rest' stop stop' e a b p q h l =
-    not-here room ns j d (encoded_all ds ++ rest') rest stop (e ∙ append_assoc (encoded d) (encoded_all ds) rest') b.0.0 b.0.1 h
+    not_here room ns j d (encoded_all ds ++ rest') rest stop (e ∙ append_assoc (encoded d) (encoded_all ds) rest') b.0.0 b.0.1 h
 one_reading room ns i j k (c ∷ cs) [] rest rest' stop stop' e a b p q h l =
-    not-here room ns k c (encoded_all cs ++ rest) rest' stop' (sym e ∙ append_assoc (encoded c) (encoded_all cs) rest) a.0.0 a.0.1 l
+    not_here room ns k c (encoded_all cs ++ rest) rest' stop' (sym e ∙ append_assoc (encoded c) (encoded_all cs) rest) a.0.0 a.0.1 l
 one_reading room ns i j k (c ∷ cs) (d ∷ ds) rest rest' stop stop' e a b p q h l =
     let s = head_same c d (encoded_all cs ++ rest) (encoded_all ds ++ rest')
     (sym (append_assoc (encoded c) (encoded_all cs) rest) ∙ e ∙ append_assoc (encoded d) (encoded_all ds) rest') in
@@ -50,8 +50,8 @@ one_reading room ns i j k (c ∷ cs) (d ∷ ds) rest rest' stop stop' e a b p q 
     let r = one_reading room (after room ns c) (i + 1) j k cs ds rest rest' stop stop' s.1 a.1 b' (omega arith) (omega arith) h l' in
     (ap (λ (x : Call). x ∷ cs) s.0 ∙ ap (λ (xs : List Call). d ∷ xs) r.0, r.1)
 
-pub feeds-once : FeedsOnce
-feeds-once room ns bs count count' stop stop' new new' f g =
+pub feeds_once : FeedsOnce
+feeds_once room ns bs count count' stop stop' new new' f g =
     let o = one_reading room ns 0 count count' f.read.calls g.read.calls f.rest g.rest stop stop'
     (sym f.read.split ∙ g.read.split) f.read.accepted g.read.accepted
     (f.read.counted ∙ omega arith) (g.read.counted ∙ omega arith)

@@ -12,8 +12,8 @@ use Rattle.document.specs.Calls.{unfit, mismatched, refused, idle, verdict, targ
 use Rattle.document.specs.Laws.{WellFormed}
 use Rattle.document.proofs.Tests.{impossible}
 use Rattle.document.proofs.WellFormed.{inner, open_element}
-use Rattle.document.proofs.Effects.{refused-after}
-use Rattle.document.proofs.Verdicts.{by_capacity, by-other-name, going_on, has_nodes, idle-refused}
+use Rattle.document.proofs.Effects.{refused_after}
+use Rattle.document.proofs.Verdicts.{by_capacity, by_other_name, going_on, has_nodes, idle_refused}
 use Rattle.feed.specs.Feeds.{Probed}
 
 -- on which ground a close by the name 0 is refused
@@ -28,8 +28,8 @@ named ns w p e =
     let k = open_element ns w p i.there i.stays_open in
     elim (w.named p i.there) [ inl n ↦ n.1 | inr n ↦ impossible (cc) ]
 
-idle-other : (n : ℕ) → idle n ≡ BadCapacity → ⊥
-idle-other n = go (eqb n 0)
+idle_other : (n : ℕ) → idle n ≡ BadCapacity → ⊥
+idle_other n = go (eqb n 0)
   where
     go : (b : Bool) → cond b NotBegun Ended ≡ BadCapacity → ⊥
     go true e = impossible (cc)
@@ -40,40 +40,40 @@ zero_close room ns w = go (unfit room) refl (innermost ns) refl
   where
     go : (b : Bool) → unfit room ≡ b → (o : Option ℕ) → innermost ns ≡ o → ZeroClose room ns
     go true b o i = record { ground = BadCapacity; is = by_capacity room ns (Close 0) b; tells_room = inl (b, refl) }
-    go false b None i = record { ground = idle (length ns); is = idle-refused ns w room (Close 0) b refl i; tells_room = inr (b, idle-other (length ns)) }
+    go false b None i = record { ground = idle (length ns); is = idle_refused ns w room (Close 0) b refl i; tells_room = inr (b, idle_other (length ns)) }
     go false b (Some p) i =
         let n = ne_eqb (name_of ns p) 0 (λ z. omega (arith, named ns w p i)) in
         let m : mismatched ns (Close 0) ≡ true = rw (i, n) refl in
         record {
           ground = OtherName;
-          is = by-other-name room ns (Close 0) b (going_on ns w p i) (has_nodes ns w p i) refl refl m;
+          is = by_other_name room ns (Close 0) b (going_on ns w p i) (has_nodes ns w p i) refl refl m;
           tells_room = inr (b, λ e. impossible (cc));
         }
 
 module _ {S : Type 0} {nodes : S → List Node} {sound : S → Type 0} {room : S → ℕ} {was is : S} {r : Result ℕ Refusal} (w : WellFormed (nodes was))
     (c : Called nodes sound room was (Close 0) r is) where
-  verdict-is : ZeroClose (room was) (nodes was)
-  verdict-is = zero_close (room was) (nodes was) w
+  verdict_is : ZeroClose (room was) (nodes was)
+  verdict_is = zero_close (room was) (nodes was) w
 
-  result : r ≡ Err (refusal verdict-is.ground 0)
-  result = c.answer ∙ ap (λ (o : Option Ground). verdict o (target (nodes was) (Close 0))) verdict-is.is
+  result : r ≡ Err (refusal verdict_is.ground 0)
+  result = c.answer ∙ ap (λ (o : Option Ground). verdict o (target (nodes was) (Close 0))) verdict_is.is
 
   probed : (b : Bool) → b ≡ unfit (room was) → Probed nodes sound room was b is
   probed b e = record {
     answer = e;
-    leaves = c.leaves ∙ refused-after (room was) (nodes was) (Close 0) verdict-is.ground verdict-is.is;
-    same-room = c.same-room;
+    leaves = c.leaves ∙ refused_after (room was) (nodes was) (Close 0) verdict_is.ground verdict_is.is;
+    same_room = c.same_room;
     still_sound = c.still_sound;
   }
 
-  ground-is : (e : Refusal) → r ≡ Err e → e.ground ≡ verdict-is.ground
-  ground-is e h = let q = result in cc
+  ground_is : (e : Refusal) → r ≡ Err e → e.ground ≡ verdict_is.ground
+  ground_is e h = let q = result in cc
 
-  pub probed-bad : (e : Refusal) → r ≡ Err e → e.ground ≡ BadCapacity → Probed nodes sound room was true is
-  probed-bad e h g = probed true (elim verdict-is.tells_room [ inl t ↦ sym t.0 | inr t ↦ absurd (t.1 (sym (ground-is e h) ∙ g)) ])
+  pub probed_bad : (e : Refusal) → r ≡ Err e → e.ground ≡ BadCapacity → Probed nodes sound room was true is
+  probed_bad e h g = probed true (elim verdict_is.tells_room [ inl t ↦ sym t.0 | inr t ↦ absurd (t.1 (sym (ground_is e h) ∙ g)) ])
 
-  pub probed-good : (e : Refusal) → r ≡ Err e → (e.ground ≡ BadCapacity → ⊥) → Probed nodes sound room was false is
-  probed-good e h g = probed false (elim verdict-is.tells_room [ inl t ↦ absurd (g (ground-is e h ∙ t.1)) | inr t ↦ sym t.0 ])
+  pub probed_good : (e : Refusal) → r ≡ Err e → (e.ground ≡ BadCapacity → ⊥) → Probed nodes sound room was false is
+  probed_good e h g = probed false (elim verdict_is.tells_room [ inl t ↦ absurd (g (ground_is e h ∙ t.1)) | inr t ↦ sym t.0 ])
 
-  pub never-closed : {A : Type 0} (n : ℕ) → r ≡ Ok n → A
-  never-closed n h = let q = result in impossible (cc)
+  pub never_closed : {A : Type 0} (n : ℕ) → r ≡ Ok n → A
+  never_closed n h = let q = result in impossible (cc)

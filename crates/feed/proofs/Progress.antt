@@ -12,9 +12,9 @@ use Rattle.document.specs.Document.{closed_count}
 use Rattle.document.specs.Calls.{unfit, answered, accepted, after, run}
 use Rattle.document.specs.Laws.{WellFormed, Leaves}
 use Rattle.document.proofs.Tests.{impossible}
-use Rattle.document.proofs.WellFormed.{closed-few}
-use Rattle.document.proofs.Calls.{calls-next, runs_stable}
-use Rattle.document.proofs.Effects.{calls_effect, answered_err, refused-after}
+use Rattle.document.proofs.WellFormed.{closed_few}
+use Rattle.document.proofs.Calls.{calls_next, runs_stable}
+use Rattle.document.proofs.Effects.{calls_effect, answered_err, refused_after}
 use Rattle.feed.specs.Records.{encoded, decoded}
 use Rattle.feed.specs.Feeds.{answered_by, after_by, record_answered, Recorded, encoded_all, Accepted, Read, FedTo}
 use Rattle.feed.proofs.Exact.{Bytes, exact}
@@ -88,7 +88,7 @@ refused_record room ns i bs e h = go (decoded bs) h
   where
     go : (o : Option Call) → answered_by room ns i o ≡ Err e → after_by room ns o ≡ ns
     go None k = refl
-    go (Some c) k = let a = answered_err room ns c e k in refused-after room ns c a.0 a.1
+    go (Some c) k = let a = answered_err room ns c e k in refused_after room ns c a.0 a.1
 
 -- an accepted call begins a node or closes one, or both
 counts_up : (room : ℕ) (ns : List Node) (c : Call) (n : ℕ) → WellFormed ns → answered room ns c ≡ Ok n
@@ -98,55 +98,55 @@ counts_up room ns c n w e =
     subst (λ (ms : List Node). length ns + closed_count ns < length ms + closed_count ms) (sym o.0) (go c o.1)
   where
     go : (d : Call) → Leaves ns d n → length ns + closed_count ns < length (accepted ns d) + closed_count (accepted ns d)
-    go (call.Open name) l = omega (arith, l.1.node-count, l.1.end-count)
-    go call.Text l = omega (arith, l.1.node-count, l.1.end-count)
-    go (call.Close name) l = omega (arith, l.2.node-count, l.2.end-count)
+    go (call.Open name) l = omega (arith, l.1.node_count, l.1.end_count)
+    go call.Text l = omega (arith, l.1.node_count, l.1.end_count)
+    go (call.Close name) l = omega (arith, l.2.node_count, l.2.end_count)
 
-few-calls : (room : ℕ) (ns : List Node) (cs : List Call) → WellFormed ns → Accepted room ns cs
+few_calls : (room : ℕ) (ns : List Node) (cs : List Call) → WellFormed ns → Accepted room ns cs
     → length cs + length ns + closed_count ns ≤ length (run room ns cs) + closed_count (run room ns cs)
-few-calls room ns [] w a = omega arith
-few-calls room ns (c ∷ cs) w a =
+few_calls room ns [] w a = omega arith
+few_calls room ns (c ∷ cs) w a =
     let up = counts_up room ns c a.0.0 w a.0.1 in
-    let rest = few-calls room (after room ns c) cs (calls-next room ns c w).well a.1 in
+    let rest = few_calls room (after room ns c) cs (calls_next room ns c w).well a.1 in
     omega arith
 
-pub read-few : {room : ℕ} {ns new : List Node} {bs rest : List ℕ} {count : ℕ} → WellFormed ns → Read room ns bs count rest new → count ≤ 8192
-read-few {room} {ns} w r =
+pub read_few : {room : ℕ} {ns new : List Node} {bs rest : List ℕ} {count : ℕ} → WellFormed ns → Read room ns bs count rest new → count ≤ 8192
+read_few {room} {ns} w r =
     let new = run room ns r.calls in
     let end = (runs_stable room ns r.calls w).1 in
-    omega (arith, few-calls room ns r.calls w r.accepted, r.counted, closed-few new, end.bounded)
+    omega (arith, few_calls room ns r.calls w r.accepted, r.counted, closed_few new, end.bounded)
 
 -- what stands at the start of a turn, of any implementation
 pub record SoFar {S : Type 0} (nodes : S → List Node) (sound : S → Type 0) (room : S → ℕ) (was : S) (bs : List ℕ) (count : ℕ) (rest : List ℕ) (is : S) : Type 0 where
   pub read : Read (room was) (nodes was) bs count rest (nodes is)
-  pub same-room : room is ≡ room was
+  pub same_room : room is ≡ room was
   pub still_sound : sound is
 
 pub starts : {S : Type 0} {nodes : S → List Node} {sound : S → Type 0} {room : S → ℕ} {was : S} {bs rest : List ℕ} → rest ≡ bs → sound was
     → SoFar nodes sound room was bs 0 rest was
-starts e s = record { read = read_none _ _ _ _ e; same-room = refl; still_sound = s }
+starts e s = record { read = read_none _ _ _ _ e; same_room = refl; still_sound = s }
 
 pub finishes : {S : Type 0} {nodes : S → List Node} {sound : S → Type 0} {room : S → ℕ} {was is : S} {bs rest : List ℕ} {count : ℕ} → WellFormed (nodes was)
     → SoFar nodes sound room was bs count rest is → length rest ≡ 0 → FedTo nodes sound room was bs count None is
 finishes w f l = record {
   feeds = record { rest = _; read = f.read; ended = nil_from_length _ l };
-  few = read-few w f.read;
-  same-room = f.same-room;
+  few = read_few w f.read;
+  same_room = f.same_room;
   still_sound = f.still_sound;
 }
 
 module _ {S : Type 0} {nodes : S → List Node} {sound : S → Type 0} {room : S → ℕ} {was is new : S} {bs rest : List ℕ} {count : ℕ} {r : Result ℕ Refusal}
     (f : SoFar nodes sound room was bs count rest is) (part tail : List ℕ) (cut : rest ≡ part ++ tail) (d : Recorded nodes sound room is count part r new) where
   answer : record_answered (room was) (nodes is) count part ≡ r
-  answer = ap (λ (m : ℕ). record_answered m (nodes is) count part) (sym f.same-room) ∙ sym d.answer
+  answer = ap (λ (m : ℕ). record_answered m (nodes is) count part) (sym f.same_room) ∙ sym d.answer
 
   leaves : nodes new ≡ after_by (room was) (nodes is) (decoded part)
-  leaves = d.leaves ∙ ap (λ (m : ℕ). after_by m (nodes is) (decoded part)) f.same-room
+  leaves = d.leaves ∙ ap (λ (m : ℕ). after_by m (nodes is) (decoded part)) f.same_room
 
   pub goes_on : Bytes bs → (n : ℕ) → r ≡ Ok n → SoFar nodes sound room was bs (count + 1) tail new
   goes_on bytes n h = record {
     read = read_more bytes f.read part cut n (answer ∙ h) leaves;
-    same-room = d.same-room ∙ f.same-room;
+    same_room = d.same_room ∙ f.same_room;
     still_sound = d.still_sound;
   }
 
@@ -157,7 +157,7 @@ module _ {S : Type 0} {nodes : S → List Node} {sound : S → Type 0} {room : S
       let read : Read (room was) (nodes was) bs count rest (nodes new) = rw same f.read in
       record {
         feeds = record { rest = rest; read = read; ended = (some, rw (same, next_record rest part tail cut l) (answer ∙ h)) };
-        few = read-few w read;
-        same-room = d.same-room ∙ f.same-room;
+        few = read_few w read;
+        same_room = d.same_room ∙ f.same_room;
         still_sound = d.still_sound;
       }

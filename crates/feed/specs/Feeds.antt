@@ -24,14 +24,14 @@ record_answered room ns i bs = answered_by room ns i (decoded bs)
 pub record Probed {S : Type 0} (nodes : S → List Node) (sound : S → Type 0) (room : S → ℕ) (was : S) (r : Bool) (is : S) : Type 0 where
   pub answer : r ≡ unfit (room was)
   pub leaves : nodes is ≡ nodes was
-  pub same-room : room is ≡ room was
+  pub same_room : room is ≡ room was
   pub still_sound : sound is
 
 -- A record fed to a value of some implementation: its answer r, the nodes that it leaves, and the value is sound again and has the same room.
 pub record Recorded {S : Type 0} (nodes : S → List Node) (sound : S → Type 0) (room : S → ℕ) (was : S) (i : ℕ) (bs : List ℕ) (r : Result ℕ Refusal) (is : S) : Type 0 where
   pub answer : r ≡ record_answered (room was) (nodes was) i bs
   pub leaves : nodes is ≡ after_by (room was) (nodes was) (decoded bs)
-  pub same-room : room is ≡ room was
+  pub same_room : room is ≡ room was
   pub still_sound : sound is
 
 abbrev pub encoded_all : List Call → List ℕ
@@ -71,5 +71,5 @@ FeedsOnce = (room : ℕ) (ns : List Node) (bs : List ℕ) (count count' : ℕ) (
 pub record FedTo {S : Type 0} (nodes : S → List Node) (sound : S → Type 0) (room : S → ℕ) (was : S) (bs : List ℕ) (count : ℕ) (stop : Option Refusal) (is : S) : Type 0 where
   pub feeds : Feeds (room was) (nodes was) bs count stop (nodes is)
   pub few : count ≤ 8192
-  pub same-room : room is ≡ room was
+  pub same_room : room is ≡ room was
   pub still_sound : sound is

@@ -9,7 +9,7 @@ returns-then-unfit g c = λ s.
     record {
       answer = rw (n.0, ← (c.if-unfit.ensures s).answer) (ap Err c.at.ensures);
       leaves = rw n.0 p.leaves;
-      same-room = p.same-room;
+      same_room = p.same_room;
       still_sound = p.still_sound;
     }
 
@@ -20,6 +20,6 @@ returns-else-unfit g c = λ s.
     record {
       answer = rw (n.0, ← (c.if-unfit.ensures s).answer) (ap Err n.1);
       leaves = rw n.0 p.leaves;
-      same-room = p.same-room;
+      same_room = p.same_room;
       still_sound = p.still_sound;
     }
