@@ -1,6 +1,6 @@
 -- How a text is cut into lines.
-use Rattle.std.proofs.Common.{◌≡◌, ℕ, ◌+◌, ◌-◌, ◌<◌, true, false, ◌&&◌, ◌||◌, eqb, List, [], ◌∷◌, ◌++◌, length, get_or, take, drop, sym, refl, ap, ◌∙◌, subst, inl, inr, arith, length-append, take-append-drop}
-use Rattle.std.specs.List.{AllByRecursion as All}
+use Rattle.std.proofs.Common.{◌≡◌, ℕ, ◌+◌, ◌-◌, ◌<◌, true, ◌&&◌, ◌||◌, eqb, List, [], ◌∷◌, ◌++◌, length, get_or, take, drop, sym, refl, ap, ◌∙◌, subst, inl, inr, arith, length-append, take-append-drop}
+use Rattle.std.specs.List.{AllByRecursion}
 use Rattle.std.proofs.lemmas.List.{append_assoc, drop_more, take_rest}
 use Rattle.std.proofs.lemmas.Bool.{cond-true, cond-false, ne_eqb, eq-eqb, and_parts, cases_eq, false≢true}
 use Rattle.names.specs.Classes.{class_of, begins, goes}
@@ -19,21 +19,21 @@ pub no_line : (l : List ℕ) → Plain l → lines l ≡ []
 no_line [] h = refl
 no_line (x ∷ l) h = cond-false _ _ _ (ne_eqb x 10 h.0) ∙ ap (onto x) (no_line l h.1)
 
-pub first-line : {s : List ℕ} (l r : List ℕ) → Plain l → s ≡ l ++ 10 ∷ r → lines s ≡ l ∷ lines r
-first-line l r h e = ap lines e ∙ one_line l r h
+pub first_line : {s : List ℕ} (l r : List ℕ) → Plain l → s ≡ l ++ 10 ∷ r → lines s ≡ l ∷ lines r
+first_line l r h e = ap lines e ∙ one_line l r h
 
 pub shorter : (s l r : List ℕ) → s ≡ l ++ 10 ∷ r → length r < length s
 shorter s l r e = omega (arith, ap length e, length-append l (10 ∷ r))
 
 -- the text of names, and what follows it
-pub ended-append : (xs ys : List (List ℕ)) → ended (xs ++ ys) ≡ ended xs ++ ended ys
-ended-append [] ys = refl
-ended-append (x ∷ xs) ys = ap (λ l. x ++ 10 ∷ l) (ended-append xs ys) ∙ sym (append_assoc x (10 ∷ ended xs) (ended ys))
+pub ended_append : (xs ys : List (List ℕ)) → ended (xs ++ ys) ≡ ended xs ++ ended ys
+ended_append [] ys = refl
+ended_append (x ∷ xs) ys = ap (λ l. x ++ 10 ∷ l) (ended_append xs ys) ∙ sym (append_assoc x (10 ∷ ended xs) (ended ys))
 
-pub ended-lines : (xs : List (List ℕ)) (r : List ℕ) → All Plain xs → lines (ended xs ++ r) ≡ xs ++ lines r
-ended-lines [] r h = refl
-ended-lines (x ∷ xs) r h =
-    ap lines (append_assoc x (10 ∷ ended xs) r) ∙ one_line x (ended xs ++ r) h.0 ∙ ap (λ l. x ∷ l) (ended-lines xs r h.1)
+pub ended_lines : (xs : List (List ℕ)) (r : List ℕ) → AllByRecursion Plain xs → lines (ended xs ++ r) ≡ xs ++ lines r
+ended_lines [] r h = refl
+ended_lines (x ∷ xs) r h =
+    ap lines (append_assoc x (10 ∷ ended xs) r) ∙ one_line x (ended xs ++ r) h.0 ∙ ap (λ l. x ∷ l) (ended_lines xs r h.1)
 
 -- a text by its lines
 pub record Cut (s l : List ℕ) (ls : List (List ℕ)) : Type 0 where
@@ -65,16 +65,16 @@ named [] = refl
 named (x ∷ l) = ap (λ r. begins x && all_go r) (sym (take_rest (x ∷ l) 1))
 
 -- no name has a line's end in it
-goes-plain : (b : ℕ) → goes b ≡ true → b ≡ 10 → ⊥
+goes_plain : (b : ℕ) → goes b ≡ true → b ≡ 10 → ⊥
 unfolding class_of
-goes-plain b g e = false≢true (sym (ap goes e) ∙ g)
+goes_plain b g e = false≢true (sym (ap goes e) ∙ g)
 
 all_plain : (l : List ℕ) → all_go l ≡ true → Plain l
 all_plain [] h = tt
-all_plain (b ∷ l) h = let p = and_parts (goes b) (all_go l) h in (goes-plain b p.0, all_plain l p.1)
+all_plain (b ∷ l) h = let p = and_parts (goes b) (all_go l) h in (goes_plain b p.0, all_plain l p.1)
 
-pub plain-name : (l : List ℕ) → is_name l ≡ true → Plain l
-plain-name [] h = tt
-plain-name (b ∷ l) h =
+pub plain_name : (l : List ℕ) → is_name l ≡ true → Plain l
+plain_name [] h = tt
+plain_name (b ∷ l) h =
     let p = and_parts (begins b) (all_go l) h in
-    (goes-plain b (ap (λ x. x || eqb (class_of b) 2) p.0), all_plain l p.1)
+    (goes_plain b (ap (λ x. x || eqb (class_of b) 2) p.0), all_plain l p.1)

@@ -1,6 +1,6 @@
 -- A text with no bad line is the text of names that a list may hold, and the other way round; and what a bad line is.
-use Rattle.std.proofs.Common.{◌≡◌, ℕ, zero, suc, ◌+◌, ◌-◌, ◌<◌, ◌≤◌, true, false, not, ltb, leb, List, [], ◌∷◌, ◌++◌, length, get_or, is_some, Some, None, Option, sym, refl, ap, ◌∙◌, subst, inl, inr, le_of_suc-le-suc, not-suc-le-zero, arith}
-use Rattle.std.specs.List.{AllByRecursion as All}
+use Rattle.std.proofs.Common.{◌≡◌, ℕ, zero, suc, ◌+◌, ◌<◌, ◌≤◌, true, false, not, ltb, leb, List, [], ◌∷◌, ◌++◌, length, get_or, is_some, Some, None, Option, sym, refl, ap, ◌∙◌, subst, inl, inr, le_of_suc-le-suc, not-suc-le-zero, arith}
+use Rattle.std.specs.List.{AllByRecursion}
 use Rattle.std.specs.Str.{bytes_eq}
 use Rattle.std.proofs.lemmas.List.{append-nil, nil_from_length, append_assoc, length-append, length_push, get_or_append_left, get_or_at, get_or_push}
 use Rattle.std.proofs.ByRecursion.{All-get_or, All-push}
@@ -10,7 +10,7 @@ use Rattle.names.specs.Names.{is_name, member}
 use Rattle.names.specs.Lists.{Plain, lines, good, bad_from, first_bad, ended, Proper, IsBadLine, ListsExact}
 use Rattle.names.specs.Listed.{listed}
 use Rattle.names.specs.declared.list.NameList.{NameList}
-use Rattle.names.proofs.Cuts.{Cut, Cuts, cuts, first-line, ended-append, ended-lines, plain-name}
+use Rattle.names.proofs.Cuts.{Cut, Cuts, cuts, first_line, ended_append, ended_lines, plain_name}
 
 -- the place of a member
 member_at : (x : List ℕ) (ys : List (List ℕ)) → member x ys ≡ true → (k : ℕ) × (k < length ys) × (get_or ys k [] ≡ x)
@@ -26,8 +26,8 @@ member_from x [] k lt e = absurd (not-suc-le-zero lt)
 member_from x (y ∷ ys) zero lt e = or_left (bytes_eq y x) (member x ys) ((bytes_eq-Decides y x).1 e)
 member_from x (y ∷ ys) (suc k) lt e = or_right (bytes_eq y x) (member x ys) (member_from x ys k (le_of_suc-le-suc lt) e)
 
-pub none-proper : Proper []
-none-proper = record { few = omega arith; named = tt; once = λ i j hi hj e. absurd (not-suc-le-zero hi) }
+pub none_proper : Proper []
+none_proper = record { few = omega arith; named = tt; once = λ i j hi hj e. absurd (not-suc-le-zero hi) }
 
 record Good (seen : List (List ℕ)) (l : List ℕ) : Type 0 where
   few : length seen < 1024
@@ -63,8 +63,8 @@ module _ (seen : List (List ℕ)) (l : List ℕ) (p : Proper seen) (g : good see
         ]
       ]
 
-  pub good-proper : Proper (seen ++ l ∷ [])
-  good-proper =
+  pub good_proper : Proper (seen ++ l ∷ [])
+  good_proper =
       let h = parts seen l g in
       record {
         few = omega (arith, length_push seen l);
@@ -89,13 +89,13 @@ good_of seen l ls p =
     and_from _ _ (lt-ltb (length seen) 1024 (omega (arith, p.few))) (and_from _ _ ok.0 (and_from _ _ (le-leb (length l) 32 ok.1) fresh))
 
 pub ended_push : (seen : List (List ℕ)) (l : List ℕ) → length (ended (seen ++ l ∷ [])) ≡ length (ended seen) + (length l + 1)
-ended_push seen l = ap length (ended-append seen (l ∷ [])) ∙ length-append (ended seen) (l ++ 10 ∷ []) ∙ ap (λ n. length (ended seen) + n) (length_push l 10)
+ended_push seen l = ap length (ended_append seen (l ∷ [])) ∙ length-append (ended seen) (l ++ 10 ∷ []) ∙ ap (λ n. length (ended seen) + n) (length_push l 10)
 
-pub ended-more : (seen : List (List ℕ)) (l rest after : List ℕ) → rest ≡ l ++ 10 ∷ after → ended seen ++ rest ≡ ended (seen ++ l ∷ []) ++ after
-ended-more seen l rest after e =
+pub ended_more : (seen : List (List ℕ)) (l rest after : List ℕ) → rest ≡ l ++ 10 ∷ after → ended seen ++ rest ≡ ended (seen ++ l ∷ []) ++ after
+ended_more seen l rest after e =
     ap (λ r. ended seen ++ r) (e ∙ sym (append_assoc l (10 ∷ []) after))
     ∙ sym (append_assoc (ended seen) (l ++ 10 ∷ []) after)
-    ∙ ap (λ r. r ++ after) (sym (ended-append seen (l ∷ [])))
+    ∙ ap (λ r. r ++ after) (sym (ended_append seen (l ∷ [])))
 
 abbrev Judged : List ℕ → List (List ℕ) → Option ℕ → Type 0
 Judged text names None = Proper names × (text ≡ ended names)
@@ -114,7 +114,7 @@ judge text seen [] rest e s p =
             proper = p;
             place = refl;
             something = omega arith;
-            bad = λ l more h is q. let z : 0 ≡ suc (length (lines more)) = ap length (sym e ∙ first-line l more h is) in omega arith;
+            bad = λ l more h is q. let z : 0 ≡ suc (length (lines more)) = ap length (sym e ∙ first_line l more h is) in omega arith;
           })
       | inr ge ↦
           subst (Judged text (seen ++ [])) (sym (cond-false _ _ _ (le-ltb (length (ended seen)) (length text) ge)))
@@ -128,7 +128,7 @@ judge text seen (l ∷ ls) rest e s p =
           subst (Judged text (seen ++ l ∷ ls)) (sym (cond-true _ _ _ g))
           (subst (λ (n : ℕ). Judged text (seen ++ l ∷ ls) (bad_from (length text) (seen ++ l ∷ []) n ls)) (ended_push seen l)
           (subst (λ (ns : List (List ℕ)). Judged text ns (bad_from (length text) (seen ++ l ∷ []) (length (ended (seen ++ l ∷ []))) ls)) (append_assoc seen (l ∷ []) ls)
-          (judge text (seen ++ l ∷ []) ls cut.after cut.left (s ∙ ended-more seen l rest cut.after cut.split) (good-proper seen l p g))))
+          (judge text (seen ++ l ∷ []) ls cut.after cut.left (s ∙ ended_more seen l rest cut.after cut.split) (good_proper seen l p g))))
       | inr b ↦
           subst (Judged text (seen ++ l ∷ ls)) (sym (cond-false _ _ _ b))
           (record {
@@ -139,13 +139,13 @@ judge text seen (l ∷ ls) rest e s p =
             place = refl;
             something = omega (arith, ap length cut.split, length-append l (10 ∷ cut.after));
             bad = λ l' more h is q.
-                let same : l' ≡ l = cc (first-line l' more h is) in
+                let same : l' ≡ l = cc (first_line l' more h is) in
                 false≢true (sym b ∙ ap (good seen) (sym same) ∙ good_of seen l' [] q);
           })
     ]
 
 judged : (text : List ℕ) → Judged text (lines text) (first_bad text)
-judged text = judge text [] (lines text) text refl refl none-proper
+judged text = judge text [] (lines text) text refl refl none_proper
 
 pub proper_of : (text : List ℕ) → first_bad text ≡ None → Proper (lines text)
 proper_of text e = let j : Judged text (lines text) None = subst (Judged text (lines text)) e (judged text) in j.0
@@ -161,26 +161,26 @@ none_from None e = refl
 none_from (Some x) e = absurd (true≢false e)
 
 -- what a name list carries in its type
-pub listed-good : (list : NameList) → first_bad list.bytes.now ≡ None
-listed-good list = none_from (first_bad list.bytes.now) list.good
+pub listed_good : (list : NameList) → first_bad list.bytes.now ≡ None
+listed_good list = none_from (first_bad list.bytes.now) list.good
 
-pub listed-proper : (list : NameList) → Proper (listed list)
-listed-proper list = proper_of list.bytes.now (listed-good list)
+pub listed_proper : (list : NameList) → Proper (listed list)
+listed_proper list = proper_of list.bytes.now (listed_good list)
 
 -- the other way round
-pub plain_names : (names : List (List ℕ)) → All (λ n. (is_name n ≡ true) × (length n ≤ 32)) names → All Plain names
+pub plain_names : (names : List (List ℕ)) → AllByRecursion (λ n. (is_name n ≡ true) × (length n ≤ 32)) names → AllByRecursion Plain names
 plain_names [] h = tt
-plain_names (n ∷ ns) h = (plain-name n h.0.0, plain_names ns h.1)
+plain_names (n ∷ ns) h = (plain_name n h.0.0, plain_names ns h.1)
 
 pub lines_of : (names : List (List ℕ)) → Proper names → lines (ended names) ≡ names
-lines_of names p = ap lines (sym (append-nil (ended names))) ∙ ended-lines names [] (plain_names names p.named) ∙ append-nil names
+lines_of names p = ap lines (sym (append-nil (ended names))) ∙ ended_lines names [] (plain_names names p.named) ∙ append-nil names
 
-none-bad : (names seen ls : List (List ℕ)) → names ≡ seen ++ ls → Proper names → bad_from (length (ended names)) seen (length (ended seen)) ls ≡ None
-none-bad names seen [] e p = cond-false _ _ _ (le-ltb (length (ended seen)) (length (ended names)) (omega (arith, ap (λ ns. length (ended ns)) (e ∙ append-nil seen))))
-none-bad names seen (l ∷ ls) e p =
+none_bad : (names seen ls : List (List ℕ)) → names ≡ seen ++ ls → Proper names → bad_from (length (ended names)) seen (length (ended seen)) ls ≡ None
+none_bad names seen [] e p = cond-false _ _ _ (le-ltb (length (ended seen)) (length (ended names)) (omega (arith, ap (λ ns. length (ended ns)) (e ∙ append-nil seen))))
+none_bad names seen (l ∷ ls) e p =
     cond-true _ _ _ (good_of seen l ls (subst Proper e p))
     ∙ ap (λ n. bad_from (length (ended names)) (seen ++ l ∷ []) n ls) (sym (ended_push seen l))
-    ∙ none-bad names (seen ++ l ∷ []) ls (e ∙ sym (append_assoc seen (l ∷ []) ls)) p
+    ∙ none_bad names (seen ++ l ∷ []) ls (e ∙ sym (append_assoc seen (l ∷ []) ls)) p
 
 pub lists_exact : ListsExact
-lists_exact names p = (ap (bad_from (length (ended names)) [] 0) (lines_of names p) ∙ none-bad names [] names refl p, lines_of names p)
+lists_exact names p = (ap (bad_from (length (ended names)) [] 0) (lines_of names p) ∙ none_bad names [] names refl p, lines_of names p)

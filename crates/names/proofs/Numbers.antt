@@ -7,18 +7,18 @@ use Rattle.std.proofs.lemmas.Bool.{cond-true, cond-false, cases_Bool, cases_lt, 
 use Rattle.std.proofs.lemmas.Bool.Decides.{same_from_decides, not_from_Decides}
 use Rattle.names.specs.Names.{member}
 use Rattle.names.specs.Lists.{Plain, lines, number_from, number_of, name_of, Proper, NumbersAre}
-use Rattle.names.proofs.Cuts.{first-line, no_line}
+use Rattle.names.proofs.Cuts.{first_line, no_line}
 
 -- one line more is looked at
 module _ (word : List ℕ) {s : List ℕ} (l r : List ℕ) (p : Plain l) (e : s ≡ l ++ 10 ∷ r) (b : Bool) (d : Decides b (l ≡ word)) where
   is : bytes_eq l word ≡ b
   is = same_from_decides (bytes_eq l word) b (bytes_eq-Decides l word) d
 
-  pub member-first : member word (lines s) ≡ (b || member word (lines r))
-  member-first = ap (member word) (first-line l r p e) ∙ ap (λ x. x || member word (lines r)) is
+  pub member_first : member word (lines s) ≡ (b || member word (lines r))
+  member_first = ap (member word) (first_line l r p e) ∙ ap (λ x. x || member word (lines r)) is
 
-  pub number-first : (k : ℕ) → number_from k (lines s) word ≡ cond b (Some k) (number_from (k + 1) (lines r) word)
-  number-first k = ap (λ ls. number_from k ls word) (first-line l r p e) ∙ ap (λ x. cond x (Some k) (number_from (k + 1) (lines r) word)) is
+  pub number_first : (k : ℕ) → number_from k (lines s) word ≡ cond b (Some k) (number_from (k + 1) (lines r) word)
+  number_first k = ap (λ ls. number_from k ls word) (first_line l r p e) ∙ ap (λ x. cond x (Some k) (number_from (k + 1) (lines r) word)) is
 
 -- where a name is found, or that it is nowhere
 abbrev Found : ℕ → List (List ℕ) → List ℕ → Option ℕ → Type 0
@@ -48,8 +48,8 @@ record Named (names : List (List ℕ)) (k : ℕ) (n : List ℕ) : Type 0 where
   high : k ≤ length names
   is : get_or names (k - 1) [] ≡ n
 
-named-parts : (names : List (List ℕ)) (k : ℕ) (n : List ℕ) → name_of names k ≡ Some n → Named names k n
-named-parts names k n e =
+named_parts : (names : List (List ℕ)) (k : ℕ) (n : List ℕ) → name_of names k ≡ Some n → Named names k n
+named_parts names k n e =
     elim (cases_Bool (ltb 0 k && leb k (length names))) [
       | inl y ↦
           let p = and_parts (ltb 0 k) _ y in
@@ -70,7 +70,7 @@ number_is names p n k h (Some m) f =
     ap Some (omega arith)
 
 pub number_of_name : (names : List (List ℕ)) → Proper names → (n : List ℕ) (k : ℕ) → name_of names k ≡ Some n → number_of names n ≡ Some k
-number_of_name names p n k e = number_is names p n k (named-parts names k n e) (number_of names n) (found 1 names n)
+number_of_name names p n k e = number_is names p n k (named_parts names k n e) (number_of names n) (found 1 names n)
 
 pub numbers_are : NumbersAre
 numbers_are names p n k = (name_of_number names n k, number_of_name names p n k)
@@ -88,7 +88,7 @@ walk_start text number = record { seen = []; split = refl; counted = omega arith
 module _ {text rest : List ℕ} {at number : ℕ} (w : Walk text rest at number) where
   module _ (l r : List ℕ) (p : Plain l) (e : rest ≡ l ++ 10 ∷ r) where
     next : lines text ≡ w.seen ++ l ∷ lines r
-    next = w.split ∙ ap (λ ls. w.seen ++ ls) (first-line l r p e)
+    next = w.split ∙ ap (λ ls. w.seen ++ ls) (first_line l r p e)
 
     pub walk_within : at ≤ length (lines text)
     walk_within = omega (arith, ap length next, length-append w.seen (l ∷ lines r), w.counted)

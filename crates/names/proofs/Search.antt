@@ -4,8 +4,8 @@ use Rattle.std.proofs.lemmas.List.{length-append, length_push, take_at}
 use Rattle.std.proofs.lemmas.Bool.{cond-true, cond-false, and_from, and_left, and_right, lt-ltb, le-ltb, le-leb, lt-leb}
 use Rattle.names.specs.Names.{is_name, member}
 use Rattle.names.specs.Lists.{Plain, lines, good, bad_from, first_bad, ended, Proper}
-use Rattle.names.proofs.Cuts.{first-line, no_line}
-use Rattle.names.proofs.Laws.{none-proper, good-proper, ended_push, ended-more, lines_of}
+use Rattle.names.proofs.Cuts.{first_line, no_line}
+use Rattle.names.proofs.Laws.{none_proper, good_proper, ended_push, ended_more, lines_of}
 
 -- the lines before the rest are good, and the first bad line is sought behind them
 pub record Sofar (text rest : List ℕ) (count : ℕ) : Type 0 where
@@ -16,7 +16,7 @@ pub record Sofar (text rest : List ℕ) (count : ℕ) : Type 0 where
   pub same : bad_from (length text) seen (length (ended seen)) (lines rest) ≡ first_bad text
 
 pub start : (text : List ℕ) → Sofar text text 0
-start text = record { seen = []; split = refl; proper = none-proper; many = refl; same = refl }
+start text = record { seen = []; split = refl; proper = none_proper; many = refl; same = refl }
 
 module _ {text rest : List ℕ} {count : ℕ} (h : Sofar text rest count) where
   long : length text ≡ length (ended h.seen) + length rest
@@ -28,20 +28,20 @@ module _ {text rest : List ℕ} {count : ℕ} (h : Sofar text rest count) where
   place : length text - length rest ≡ length (ended h.seen)
   place = omega (arith, long)
 
-  pub lines-before : lines (take (length text - length rest) text) ≡ h.seen
-  lines-before =
+  pub lines_before : lines (take (length text - length rest) text) ≡ h.seen
+  lines_before =
       ap lines (ap (λ n. take n text) place ∙ ap (take (length (ended h.seen))) h.split ∙ take_at (ended h.seen) rest _ refl)
       ∙ lines_of h.seen h.proper
 
   module _ (line after : List ℕ) (p : Plain line) (e : rest ≡ line ++ 10 ∷ after) where
     next : bad_from (length text) h.seen (length (ended h.seen)) (line ∷ lines after) ≡ first_bad text
-    next = sym (ap (bad_from (length text) h.seen (length (ended h.seen))) (first-line line after p e)) ∙ h.same
+    next = sym (ap (bad_from (length text) h.seen (length (ended h.seen))) (first_line line after p e)) ∙ h.same
 
     pub more : good h.seen line ≡ true → Sofar text after (count + 1)
     more ok = record {
       seen = h.seen ++ line ∷ [];
-      split = h.split ∙ ended-more h.seen line rest after e;
-      proper = good-proper h.seen line h.proper ok;
+      split = h.split ∙ ended_more h.seen line rest after e;
+      proper = good_proper h.seen line h.proper ok;
       many = omega (arith, h.many, length_push h.seen line);
       same = ap (λ n. bad_from (length text) (h.seen ++ line ∷ []) n (lines after)) (ended_push h.seen line) ∙ sym (cond-true _ _ _ ok) ∙ next;
     }

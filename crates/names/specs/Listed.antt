@@ -14,7 +14,7 @@ pub record ListOf (text : List ℕ) (names : List (List ℕ)) : Type 0 where
   pub good : first_bad text ≡ None
   pub lines_are : names ≡ lines text
   pub proper : Proper names
-  pub text-is : text ≡ ended names
+  pub text_is : text ≡ ended names
 
 -- The text is refused at the first line that is bad.
 pub record RefusedAt (text : List ℕ) (e : Refusal) : Type 0 where

@@ -1,12 +1,12 @@
 -- A name list: names, each ended by byte 10, at most 1,024 of them, each of at most 32 bytes, none twice.
 use Rattle.std.specs.Prelude.{◌≡◌, ℕ, ◌+◌, ◌-◌, ◌<◌, ◌≤◌, Bool, true, cond, not, ◌&&◌, ◌↔◌, List, [], ◌∷◌, ◌++◌, length, Some, None, Option, ◌==◌, ◌≢◌, nat_le, nat_lt, slice_index_or}
-use Rattle.std.specs.List.{AllByRecursion as All}
+use Rattle.std.specs.List.{AllByRecursion}
 use Rattle.std.specs.Str.{bytes_eq}
 use Rattle.names.specs.Names.{is_name, member}
 
 -- no byte ends a line
 abbrev pub Plain : List ℕ → Type 0
-Plain l = All (λ b. b ≢ 10) l
+Plain l = AllByRecursion (λ b. b ≢ 10) l
 
 abbrev pub onto : ℕ → List (List ℕ) → List (List ℕ)
 onto b [] = []
@@ -49,7 +49,7 @@ ended (n ∷ ns) = n ++ 10 ∷ ended ns
 -- What a name list may hold.
 pub record Proper (names : List (List ℕ)) : Type 0 where
   pub few : length names ≤ 1024
-  pub named : All (λ n. (is_name n ≡ true) × (length n ≤ 32)) names
+  pub named : AllByRecursion (λ n. (is_name n ≡ true) × (length n ≤ 32)) names
   pub once : (i j : ℕ) → i < length names → j < length names → slice_index_or names i [] ≡ slice_index_or names j [] → i ≡ j
 
 -- The line that begins at p cannot follow the good lines before it: it has no end, or is no new name, or is one too many.

@@ -3,7 +3,7 @@ use Rattle.std.proofs.lemmas.List.{at_drop_more, at_drop_all}
 use Rattle.std.proofs.lemmas.Bool.Decides.{nat_tests}
 use Rattle.names.specs.Names.{all_go}
 use Rattle.names.proofs.Cuts.{named}
-use Rattle.names.proofs.lines.fits_name.Goals as goal
+use Rattle.names.proofs.lines.is_name.Goals as goal
 
 pub returns-then-c-ne2 : goal.returns-then-c-ne2
 returns-then-c-ne2 c =
