@@ -18,8 +18,8 @@ length-steps c =
     let whole = c.whole in
     length-take-le c.len c.steps (omega arith)
 
-pub few-steps : FewSteps
-few-steps c =
+pub few_steps : FewSteps
+few_steps c =
     let few = c.few in
     omega (arith, length-steps c)
 

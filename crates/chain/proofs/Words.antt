@@ -21,9 +21,9 @@ word_back FollowingSibling = refl
 word_back PrecedingSibling = refl
 word_back Itself = refl
 
-worded-only : (w : List ℕ) (some : List Axis) (a : Axis) → worded w some ≡ Some a → word_of a ≡ w
-worded-only w [] a e = grind arith
-worded-only w (b ∷ rest) a e = go (worded-only w rest a) (bytes_eq (word_of b) w) refl e
+worded_only : (w : List ℕ) (some : List Axis) (a : Axis) → worded w some ≡ Some a → word_of a ≡ w
+worded_only w [] a e = grind arith
+worded_only w (b ∷ rest) a e = go (worded_only w rest a) (bytes_eq (word_of b) w) refl e
   where
     go : (worded w rest ≡ Some a → word_of a ≡ w) → (t : Bool) → bytes_eq (word_of b) w ≡ t → cond t (Some b) (worded w rest) ≡ Some a → word_of a ≡ w
     go later true s e =
@@ -32,16 +32,16 @@ worded-only w (b ∷ rest) a e = go (worded-only w rest a) (bytes_eq (word_of b)
     go later false s e = later e
 
 pub word_only : WordsOnly
-word_only w a e = sym (worded-only w axes a e)
+word_only w a e = sym (worded_only w axes a e)
 
 -- The axis at place i has the word, and no axis before it.
-pub worded-here : (w : List ℕ) (i : ℕ) (d : Axis) (x : List ℕ) → i < 11 → x ≡ word_of (get_or axes i d) → x ≡ w → axis_of w ≡ worded w (drop i axes) → Some (get_or axes i d) ≡ axis_of w
-worded-here w i d x lt is same before =
+pub worded_here : (w : List ℕ) (i : ℕ) (d : Axis) (x : List ℕ) → i < 11 → x ≡ word_of (get_or axes i d) → x ≡ w → axis_of w ≡ worded w (drop i axes) → Some (get_or axes i d) ≡ axis_of w
+worded_here w i d x lt is same before =
     sym (before ∙ at_drop_more (worded w) axes i d lt ∙ ap (λ t. cond t (Some (get_or axes i d)) (worded w (drop (i + 1) axes))) ((bytes_eq-Decides (word_of (get_or axes i d)) w).1 (sym is ∙ same)))
 
 -- The axis at place i has another word, as those before it.
-pub worded-past : (w : List ℕ) (i : ℕ) (d : Axis) (x : List ℕ) → i < 11 → x ≡ word_of (get_or axes i d) → (x ≡ w → ⊥) → axis_of w ≡ worded w (drop i axes) → axis_of w ≡ worded w (drop (i + 1) axes)
-worded-past w i d x lt is other before = go (bytes_eq (word_of (get_or axes i d)) w) refl
+pub worded_past : (w : List ℕ) (i : ℕ) (d : Axis) (x : List ℕ) → i < 11 → x ≡ word_of (get_or axes i d) → (x ≡ w → ⊥) → axis_of w ≡ worded w (drop i axes) → axis_of w ≡ worded w (drop (i + 1) axes)
+worded_past w i d x lt is other before = go (bytes_eq (word_of (get_or axes i d)) w) refl
   where
     go : (t : Bool) → bytes_eq (word_of (get_or axes i d)) w ≡ t → axis_of w ≡ worded w (drop (i + 1) axes)
     go true s = absurd (other (is ∙ (bytes_eq-Decides (word_of (get_or axes i d)) w).0 s))

@@ -1,5 +1,10 @@
 // The theorems on axes and chains, each as a contract, so that the check asks for its proof.
+ghost use Rattle.std.specs.Prelude.{◌≡◌, Decides};
+ghost use Rattle.chain.specs.Chains.{steps_of};
+ghost use Rattle.chain.specs.declared.chain.Chain.{Chain};
 ghost use Rattle.chain.specs.Laws.{WordsBack, WordsOnly, ChainsSame, FewSteps};
+
+use super::Chain;
 
 // Each axis is the one that its word names, and no other word names it.
 pub fn axes_stand()
@@ -7,8 +12,9 @@ pub fn axes_stand()
     ensures only { WordsOnly }
 {}
 
-// A chain is known by its steps, which are at most fifteen.
+// A chain is known by its steps, which are at most fifteen, and `==` tells whether they are the same.
 pub fn chains_stand()
     ensures same { ChainsSame }
+    ensures equal { (a : Chain) (b : Chain) → Decides (⟦<Chain as PartialEq>⟧.eq a b) (steps_of a ≡ steps_of b) }
     ensures few { FewSteps }
 {}

@@ -3,10 +3,10 @@ use Rattle.chain.proofs.Steps.{length-steps, rest_more}
 use Rattle.std.proofs.lemmas.List.{take_more_set, length-set}
 use Rattle.chain.proofs.chain.Chain.with.Goals as goal
 
-pub invariant-of-result : goal.invariant-of-result
-invariant-of-result c =
+pub invariant_of-result : goal.invariant_of-result
+invariant_of-result c =
     let few = c.args.self.few in
-    (omega arith, (length-set _ _ _ ∙ c.args.self.whole, (rest_more c.args.self c.args.step, tt)))
+    record { few = omega arith; whole = length-set _ _ _ ∙ c.args.self.whole; rest = rest_more c.args.self c.args.step }
 
 pub returns : goal.returns
 returns c =
