@@ -1,5 +1,5 @@
 -- Items judged one after the other: the steps that they mean, or the first of their faults.
-use Rattle.std.proofs.Common.{◌≡◌, ℕ, ◌+◌, ◌-◌, ◌<◌, ◌≤◌, Bool, true, false, cond, ltb, ◌⊎◌, List, [], ◌∷◌, ◌++◌, length, Some, None, Ok, Err, Option, Result, sym, refl, ap, ◌∙◌, subst, inl, inr, ⊎_elim, append_assoc, append-nil, arith}
+use Rattle.std.proofs.Common.{◌≡◌, ℕ, ◌+◌, ◌<◌, ◌≤◌, Bool, true, false, cond, ltb, ◌⊎◌, List, [], ◌∷◌, ◌++◌, length, Some, None, Ok, Err, Option, Result, sym, refl, ap, ◌∙◌, subst, inl, inr, ⊎_elim, append_assoc, append-nil, arith}
 use Rattle.std.proofs.lemmas.List.{length-append}
 use Rattle.std.proofs.lemmas.Bool.{ltb-true, ltb-false, true≢false}
 use Rattle.refusal.specs.declared.Ground.TheVariants.{UnknownAxis, LongName, UnknownName, TooManySteps}
@@ -14,7 +14,7 @@ use Rattle.names.specs.Names.{is_name}
 use Rattle.names.specs.Lists.{number_of}
 use Rattle.grammar.specs.Grammar.{Separator, Slash, Slashes, Tested, Named, Star, Texts, Nodes, Written, Dot, Dots, Plain, Along, Item}
 use Rattle.grammar.specs.Texts.{separator_text, test_text, step_text, item_text, items_text}
-use Rattle.grammar.specs.Readings.{MeansTest, means-name, means-star, means-text, means-node, MeansStep, means-dot, means-dots, means-plain, means-along, Means, means-none, means-item, hidden, step_count, after_separator, TestsName, tests_plain, tests_along, ItemFault, unknown_axis, long-name, unknown_name, too_many, Fault, here, there, NoLater}
+use Rattle.grammar.specs.Readings.{MeansTest, means_name, means_star, means_text, means_node, MeansStep, means_dot, means_dots, means_plain, means_along, Means, means_none, means_item, hidden, step_count, after_separator, TestsName, tests_plain, tests_along, ItemFault, unknown_axis, long_name, unknown_name, too_many, Fault, here, there, NoLater}
 use Rattle.grammar.specs.Verdicts.{numbered, test_at, step_by, along_by, step_at, pushed, extended, go_on, judged_by, judged}
 use Rattle.grammar.proofs.Yields.{FineStep, FineItems}
 
@@ -32,16 +32,16 @@ module _ (names : List (List ℕ)) where
   TestVerdict at t (Ok u) = MeansTest names t u × ((n : List ℕ) → t ≡ Named n → Fit names n)
   TestVerdict at t (Err r) = (n : List ℕ) × (t ≡ Named n) × Unfit names at n r
 
-  test-verdict : (at : ℕ) (t : Tested) → TestVerdict at t (test_at names at t)
-  test-verdict at (Named n) = go (ltb 32 (length n)) (number_of names n) refl refl
+  test_verdict : (at : ℕ) (t : Tested) → TestVerdict at t (test_at names at t)
+  test_verdict at (Named n) = go (ltb 32 (length n)) (number_of names n) refl refl
     where
       go : (x : Bool) (o : Option ℕ) → ltb 32 (length n) ≡ x → number_of names n ≡ o → TestVerdict at (Named n) (cond x (Err (refusal LongName at)) (numbered at o))
       go true o e h = (n, refl, record { which = inl (ltb-true 32 (length n) e, refl) })
       go false None e h = (n, refl, record { which = inr (ltb-false 32 (length n) e, h, refl) })
-      go false (Some k) e h = (means-name h, λ m same. let eq : n ≡ m = cc in subst (Fit names) eq (record { short = ltb-false 32 (length n) e; listed = λ z. let w : ◌≡◌ {A = ℕ} 0 1 = cc in omega arith }))
-  test-verdict at Star = (means-star, λ m same. absurd (let w : ◌≡◌ {A = ℕ} 0 1 = cc in omega arith))
-  test-verdict at Texts = (means-text, λ m same. absurd (let w : ◌≡◌ {A = ℕ} 0 1 = cc in omega arith))
-  test-verdict at Nodes = (means-node, λ m same. absurd (let w : ◌≡◌ {A = ℕ} 0 1 = cc in omega arith))
+      go false (Some k) e h = (means_name h, λ m same. let eq : n ≡ m = cc in subst (Fit names) eq (record { short = ltb-false 32 (length n) e; listed = λ z. let w : ◌≡◌ {A = ℕ} 0 1 = cc in omega arith }))
+  test_verdict at Star = (means_star, λ m same. absurd (let w : ◌≡◌ {A = ℕ} 0 1 = cc in omega arith))
+  test_verdict at Texts = (means_text, λ m same. absurd (let w : ◌≡◌ {A = ℕ} 0 1 = cc in omega arith))
+  test_verdict at Nodes = (means_node, λ m same. absurd (let w : ◌≡◌ {A = ℕ} 0 1 = cc in omega arith))
 
   -- a step without a fault
   pub record Faultless (w : Written) : Type 0 where
@@ -57,12 +57,12 @@ module _ (names : List (List ℕ)) where
   StepVerdict at w (Ok s) = MeansStep names w s × Faultless w
   StepVerdict at w (Err r) = Faulty at w r
 
-  not-along : {w : Written} → ((a : List ℕ) (t : Tested) → w ≡ Along a t → ◌≡◌ {A = ℕ} 0 1) → (a : List ℕ) (t : Tested) → w ≡ Along a t → axis_of a ≡ None → ⊥
-  not-along h a t e z = let w = h a t e in omega arith
+  not_along : {w : Written} → ((a : List ℕ) (t : Tested) → w ≡ Along a t → ◌≡◌ {A = ℕ} 0 1) → (a : List ℕ) (t : Tested) → w ≡ Along a t → axis_of a ≡ None → ⊥
+  not_along h a t e z = let w = h a t e in omega arith
 
-  dot-none : (w : Written) (n : List ℕ) (d : ℕ) → TestsName w n d → (w ≡ Dot → ⊥) × (w ≡ Dots → ⊥)
-  dot-none w n d tests_plain = ((λ e. let z : ◌≡◌ {A = ℕ} 0 1 = cc in omega arith), (λ e. let z : ◌≡◌ {A = ℕ} 0 1 = cc in omega arith))
-  dot-none w n d tests_along = ((λ e. let z : ◌≡◌ {A = ℕ} 0 1 = cc in omega arith), (λ e. let z : ◌≡◌ {A = ℕ} 0 1 = cc in omega arith))
+  dot_none : (w : Written) (n : List ℕ) (d : ℕ) → TestsName w n d → (w ≡ Dot → ⊥) × (w ≡ Dots → ⊥)
+  dot_none w n d tests_plain = ((λ e. let z : ◌≡◌ {A = ℕ} 0 1 = cc in omega arith), (λ e. let z : ◌≡◌ {A = ℕ} 0 1 = cc in omega arith))
+  dot_none w n d tests_along = ((λ e. let z : ◌≡◌ {A = ℕ} 0 1 = cc in omega arith), (λ e. let z : ◌≡◌ {A = ℕ} 0 1 = cc in omega arith))
 
   in_plain : (t : Tested) (w : Written) (n : List ℕ) (d : ℕ) → TestsName w n d → w ≡ Plain t → t ≡ Named n
   in_plain t w n d tests_plain e = cc
@@ -72,19 +72,19 @@ module _ (names : List (List ℕ)) where
   in_along a t w n d tests_plain e = absurd (let z : ◌≡◌ {A = ℕ} 0 1 = cc in omega arith)
   in_along a t w n d tests_along e = cc
 
-  step-verdict : (at : ℕ) (w : Written) → StepVerdict at w (step_at names at w)
-  step-verdict at Dot = (means-dot, record { known = not-along (λ a t e. cc); fit = λ n d h. absurd ((dot-none Dot n d h).0 refl) })
-  step-verdict at Dots = (means-dots, record { known = not-along (λ a t e. cc); fit = λ n d h. absurd ((dot-none Dots n d h).1 refl) })
-  step-verdict at (Plain t) = go (test_at names at t) (test-verdict at t)
+  step_verdict : (at : ℕ) (w : Written) → StepVerdict at w (step_at names at w)
+  step_verdict at Dot = (means_dot, record { known = not_along (λ a t e. cc); fit = λ n d h. absurd ((dot_none Dot n d h).0 refl) })
+  step_verdict at Dots = (means_dots, record { known = not_along (λ a t e. cc); fit = λ n d h. absurd ((dot_none Dots n d h).1 refl) })
+  step_verdict at (Plain t) = go (test_at names at t) (test_verdict at t)
     where
       go : (o : Result Test Refusal) → TestVerdict at t o → StepVerdict at (Plain t) (step_by Child o)
-      go (Ok u) v = (means-plain v.0, record { known = not-along (λ a t e. cc); fit = λ n d h. v.1 n (in_plain t (Plain t) n d h refl) })
-      go (Err r) v = by_name (subst (λ (x : Tested). TestsName (Plain x) v.0 0) (sym v.1) tests_plain) (not-along (λ a t e. cc)) (subst (λ (k : ℕ). Unfit names k v.0 r) (omega arith) v.2)
-  step-verdict at (Along a t) = go (axis_of a) refl (test_at names (at + (length a + 2)) t) (test-verdict (at + (length a + 2)) t)
+      go (Ok u) v = (means_plain v.0, record { known = not_along (λ a t e. cc); fit = λ n d h. v.1 n (in_plain t (Plain t) n d h refl) })
+      go (Err r) v = by_name (subst (λ (x : Tested). TestsName (Plain x) v.0 0) (sym v.1) tests_plain) (not_along (λ a t e. cc)) (subst (λ (k : ℕ). Unfit names k v.0 r) (omega arith) v.2)
+  step_verdict at (Along a t) = go (axis_of a) refl (test_at names (at + (length a + 2)) t) (test_verdict (at + (length a + 2)) t)
     where
       go : (x : Option Axis) → axis_of a ≡ x → (o : Result Test Refusal) → TestVerdict (at + (length a + 2)) t o → StepVerdict at (Along a t) (along_by x at o)
       go None e o v = by_axis refl e refl
-      go (Some x) e (Ok u) v = (means-along e v.0, record { known = λ b s same n. let eq : a ≡ b = cc in let z : ◌≡◌ {A = ℕ} 0 1 = cc in omega arith; fit = λ n d h. v.1 n (in_along a t (Along a t) n d h refl) })
+      go (Some x) e (Ok u) v = (means_along e v.0, record { known = λ b s same n. let eq : a ≡ b = cc in let z : ◌≡◌ {A = ℕ} 0 1 = cc in omega arith; fit = λ n d h. v.1 n (in_along a t (Along a t) n d h refl) })
       go (Some x) e (Err r) v = by_name (subst (λ (y : Tested). TestsName (Along a y) v.0 (length a + 2)) (sym v.1) tests_along) (λ b s same n. let eq : a ≡ b = cc in let z : ◌≡◌ {A = ℕ} 0 1 = cc in omega arith) v.2
 
   same_name : {v w : Written} {n m : List ℕ} {d e : ℕ} → TestsName v n d → TestsName w m e → v ≡ w → (n ≡ m) × (d ≡ e)
@@ -97,17 +97,17 @@ module _ (names : List (List ℕ)) where
   past_axis tests_plain a t e = absurd (let x : ◌≡◌ {A = ℕ} 0 1 = cc in omega arith)
   past_axis tests_along a t e = omega arith
 
-  separator-long : (k : Separator) → 0 < length (separator_text k)
-  separator-long Slash = omega arith
-  separator-long Slashes = omega arith
+  separator_long : (k : Separator) → 0 < length (separator_text k)
+  separator_long Slash = omega arith
+  separator_long Slashes = omega arith
 
-  name-long : (n : List ℕ) → is_name n ≡ true → 0 < length n
-  name-long [] h = absurd (true≢false (sym h))
-  name-long (b ∷ n) h = omega arith
+  name_long : (n : List ℕ) → is_name n ≡ true → 0 < length n
+  name_long [] h = absurd (true≢false (sym h))
+  name_long (b ∷ n) h = omega arith
 
   inside : {w : Written} {n : List ℕ} {d : ℕ} → TestsName w n d → FineStep w → d < length (step_text w)
-  inside (tests_plain {n}) f = name-long n f
-  inside (tests_along {w} {n}) f = let p = name-long n f.1 in omega (arith, length-append w (58 ∷ 58 ∷ n))
+  inside (tests_plain {n}) f = name_long n f
+  inside (tests_along {w} {n}) f = let p = name_long n f.1 in omega (arith, length-append w (58 ∷ 58 ∷ n))
 
   axis_inside : {w : Written} (a : List ℕ) (t : Tested) → w ≡ Along a t → 0 < length (step_text w)
   axis_inside {w} a t e = subst (λ (v : Written). 0 < length (step_text v)) (sym e) (omega (arith, length-append a (58 ∷ 58 ∷ test_text t)))
@@ -134,7 +134,7 @@ module _ (names : List (List ℕ)) where
 
     crowded : 15 < length ss + step_count i → ItemBad (refusal TooManySteps at)
     crowded h =
-        let p = separator-long i.separator in
+        let p = separator_long i.separator in
         record {
           fault = too_many h;
           first = λ q f. later q f;
@@ -142,9 +142,9 @@ module _ (names : List (List ℕ)) where
         }
       where
         later : (q : Refusal) → ItemFault names (length ss) at i q → NoLater (refusal TooManySteps at) q
-        later q (unknown_axis e n) = inl (omega (arith, separator-long i.separator))
-        later q (long-name t l) = inl (omega (arith, separator-long i.separator))
-        later q (unknown_name t l) = inl (omega (arith, separator-long i.separator))
+        later q (unknown_axis e n) = inl (omega (arith, separator_long i.separator))
+        later q (long_name t l) = inl (omega (arith, separator_long i.separator))
+        later q (unknown_name t l) = inl (omega (arith, separator_long i.separator))
         later q (too_many l) = inr (refl, omega arith)
 
     module _ (roomy : length ss + step_count i ≤ 15) where
@@ -157,25 +157,25 @@ module _ (names : List (List ℕ)) where
         where
           later : (q : Refusal) → ItemFault names (length ss) at i q → NoLater (refusal UnknownAxis (after_separator at i)) q
           later q (unknown_axis e n) = inr (refl, omega arith)
-          later q (long-name h l) = inl (omega (arith, past_axis h a t e))
+          later q (long_name h l) = inl (omega (arith, past_axis h a t e))
           later q (unknown_name h l) = inl (omega (arith, past_axis h a t e))
           later q (too_many l) = absurd (omega arith)
 
-      long-bad : (n : List ℕ) (d : ℕ) → TestsName i.step n d → ((a : List ℕ) (t : Tested) → i.step ≡ Along a t → axis_of a ≡ None → ⊥) → 32 < length n → ItemBad (refusal LongName (after_separator at i + d))
-      long-bad n d t known l = record {
-        fault = long-name t l;
+      long_bad : (n : List ℕ) (d : ℕ) → TestsName i.step n d → ((a : List ℕ) (t : Tested) → i.step ≡ Along a t → axis_of a ≡ None → ⊥) → 32 < length n → ItemBad (refusal LongName (after_separator at i + d))
+      long_bad n d t known l = record {
+        fault = long_name t l;
         first = λ q f. later q f;
         before = λ f. omega (arith, width, inside t f);
       }
         where
           later : (q : Refusal) → ItemFault names (length ss) at i q → NoLater (refusal LongName (after_separator at i + d)) q
           later q (unknown_axis e n) = absurd (known _ _ e n)
-          later q (long-name h l) = inr (ap (λ k. after_separator at i + k) (same_name t h refl).1, omega arith)
+          later q (long_name h l) = inr (ap (λ k. after_separator at i + k) (same_name t h refl).1, omega arith)
           later q (unknown_name h l) = inr (ap (λ k. after_separator at i + k) (same_name t h refl).1, omega arith)
           later q (too_many l) = absurd (omega arith)
 
-      unlisted-bad : (n : List ℕ) (d : ℕ) → TestsName i.step n d → ((a : List ℕ) (t : Tested) → i.step ≡ Along a t → axis_of a ≡ None → ⊥) → length n ≤ 32 → number_of names n ≡ None → ItemBad (refusal UnknownName (after_separator at i + d))
-      unlisted-bad n d t known s l = record {
+      unlisted_bad : (n : List ℕ) (d : ℕ) → TestsName i.step n d → ((a : List ℕ) (t : Tested) → i.step ≡ Along a t → axis_of a ≡ None → ⊥) → length n ≤ 32 → number_of names n ≡ None → ItemBad (refusal UnknownName (after_separator at i + d))
+      unlisted_bad n d t known s l = record {
         fault = unknown_name t l;
         first = λ q f. later q f;
         before = λ f. omega (arith, width, inside t f);
@@ -183,16 +183,16 @@ module _ (names : List (List ℕ)) where
         where
           later : (q : Refusal) → ItemFault names (length ss) at i q → NoLater (refusal UnknownName (after_separator at i + d)) q
           later q (unknown_axis e n) = absurd (known _ _ e n)
-          later q (long-name h l) = absurd (omega (arith, ap length (same_name t h refl).0))
+          later q (long_name h l) = absurd (omega (arith, ap length (same_name t h refl).0))
           later q (unknown_name h l) = inr (ap (λ k. after_separator at i + k) (same_name t h refl).1, omega arith)
           later q (too_many l) = absurd (omega arith)
 
-      faulty-bad : (r : Refusal) → Faulty (after_separator at i) i.step r → ItemBad r
-      faulty-bad r (by_axis {a} {t} e n z) = subst ItemBad (sym z) (axis_bad a t e n)
-      faulty-bad r (by_name {n} {d} t known u) =
+      faulty_bad : (r : Refusal) → Faulty (after_separator at i) i.step r → ItemBad r
+      faulty_bad r (by_axis {a} {t} e n z) = subst ItemBad (sym z) (axis_bad a t e n)
+      faulty_bad r (by_name {n} {d} t known u) =
           ⊎_elim
-          (λ x. subst ItemBad (sym x.1) (long-bad n d t known x.0))
-          (λ x. subst ItemBad (sym x.2) (unlisted-bad n d t known x.0 x.1))
+          (λ x. subst ItemBad (sym x.1) (long_bad n d t known x.0))
+          (λ x. subst ItemBad (sym x.2) (unlisted_bad n d t known x.0 x.1))
           u.which
 
       all_fine : (s : Step) → MeansStep names i.step s → Faultless i.step → ItemFine ((ss ++ hidden i.separator) ++ s ∷ [])
@@ -206,22 +206,22 @@ module _ (names : List (List ℕ)) where
         where
           never : (q : Refusal) → ItemFault names (length ss) at i q → ⊥
           never q (unknown_axis e n) = f.known _ _ e n
-          never q (long-name h l) = let k = (f.fit _ _ h).short in omega arith
+          never q (long_name h l) = let k = (f.fit _ _ h).short in omega arith
           never q (unknown_name h l) = (f.fit _ _ h).listed l
           never q (too_many l) = omega arith
 
-    item-verdict : ItemVerdict (extended names ss at i)
-    item-verdict = go (ltb 15 (length ss + step_count i)) refl (step_at names (after_separator at i) i.step) (step-verdict (after_separator at i) i.step)
+    item_verdict : ItemVerdict (extended names ss at i)
+    item_verdict = go (ltb 15 (length ss + step_count i)) refl (step_at names (after_separator at i) i.step) (step_verdict (after_separator at i) i.step)
       where
         go : (x : Bool) → ltb 15 (length ss + step_count i) ≡ x → (o : Result Step Refusal) → StepVerdict (after_separator at i) i.step o
             → ItemVerdict (cond x (Err (refusal TooManySteps at)) (pushed (ss ++ hidden i.separator) o))
         go true e o v = crowded (ltb-true 15 _ e)
         go false e (Ok s) v = all_fine (ltb-false 15 _ e) s v.0 v.1
-        go false e (Err r) v = faulty-bad (ltb-false 15 _ e) r v
+        go false e (Err r) v = faulty_bad (ltb-false 15 _ e) r v
 
   item_from : {count at : ℕ} {i : Item} {q : Refusal} → ItemFault names count at i q → at ≤ q.place
   item_from (unknown_axis e n) = omega arith
-  item_from (long-name t l) = omega arith
+  item_from (long_name t l) = omega arith
   item_from (unknown_name t l) = omega arith
   item_from (too_many l) = omega arith
 
@@ -249,13 +249,13 @@ module _ (names : List (List ℕ)) where
   Outcome ss at is (Ok out) = AllFine ss at is out
   Outcome ss at is (Err r) = SomeBad ss at is r
 
-  stays-bad : (r : Refusal) (at : ℕ) (is : List Item) → judged_by names (Err r) at is ≡ Err r
-  stays-bad r at [] = refl
-  stays-bad r at (i ∷ is) = stays-bad r (at + length (item_text i)) is
+  stays_bad : (r : Refusal) (at : ℕ) (is : List Item) → judged_by names (Err r) at is ≡ Err r
+  stays_bad r at [] = refl
+  stays_bad r at (i ∷ is) = stays_bad r (at + length (item_text i)) is
 
   module _ (ss : List Step) (at : ℕ) (i : Item) (is : List Item) where
-    bad-here : (r : Refusal) → FineStep i.step → ItemBad ss at i r → SomeBad ss at (i ∷ is) r
-    bad-here r f b = record { fault = here b.fault; first = λ q h. later q h }
+    bad_here : (r : Refusal) → FineStep i.step → ItemBad ss at i r → SomeBad ss at (i ∷ is) r
+    bad_here r f b = record { fault = here b.fault; first = λ q h. later q h }
       where
         later : (q : Refusal) → Fault names (length ss) at (i ∷ is) q → NoLater r q
         later q (here h) = b.first q h
@@ -268,10 +268,10 @@ module _ (names : List (List ℕ)) where
       on : {q : Refusal} → Fault names (length ss + step_count i) (at + length (item_text i)) is q → Fault names (length mid) (at + length (item_text i)) is q
       on {q} h = subst (λ (c : ℕ). Fault names c (at + length (item_text i)) is q) (sym count) h
 
-      fine-there : (out : List Step) → AllFine mid (at + length (item_text i)) is out → AllFine ss at (i ∷ is) out
-      fine-there out a = record {
+      fine_there : (out : List Step) → AllFine mid (at + length (item_text i)) is out → AllFine ss at (i ∷ is) out
+      fine_there out a = record {
         steps = hidden i.separator ++ g.step ∷ a.steps;
-        means = means-item g.means a.means;
+        means = means_item g.means a.means;
         out_is = a.out_is ∙ ap (λ l. l ++ a.steps) g.is ∙ simp append_assoc;
         few = a.few;
         none = λ q h. never q h;
@@ -281,8 +281,8 @@ module _ (names : List (List ℕ)) where
           never q (here h) = g.none q h
           never q (there h) = a.none q (on h)
 
-      bad-there : (r : Refusal) → SomeBad mid (at + length (item_text i)) is r → SomeBad ss at (i ∷ is) r
-      bad-there r b = record {
+      bad_there : (r : Refusal) → SomeBad mid (at + length (item_text i)) is r → SomeBad ss at (i ∷ is) r
+      bad_there r b = record {
         fault = there (subst (λ (c : ℕ). Fault names c (at + length (item_text i)) is r) count b.fault);
         first = λ q h. later q h;
       }
@@ -292,28 +292,28 @@ module _ (names : List (List ℕ)) where
           later q (there h) = b.first q (on h)
 
   judge : (ss : List Step) (at : ℕ) (is : List Item) → FineItems is → length ss ≤ 15 → Outcome ss at is (judged_by names (Ok ss) at is)
-  judge ss at [] f le = record { steps = []; means = means-none; out_is = sym (append-nil ss); few = le; none = λ q h. no_fault h refl }
-  judge ss at (i ∷ is) f le = go (extended names ss at i) (item-verdict ss at i) (λ mid g. judge mid (at + length (item_text i)) is f.1 g.few)
+  judge ss at [] f le = record { steps = []; means = means_none; out_is = sym (append-nil ss); few = le; none = λ q h. no_fault h refl }
+  judge ss at (i ∷ is) f le = go (extended names ss at i) (item_verdict ss at i) (λ mid g. judge mid (at + length (item_text i)) is f.1 g.few)
     where
       on : (mid : List Step) → ItemFine ss at i mid → (o : Result (List Step) Refusal) → Outcome mid (at + length (item_text i)) is o → Outcome ss at (i ∷ is) o
-      on mid g (Ok out) v = fine-there ss at i is mid g out v
-      on mid g (Err r) v = bad-there ss at i is mid g r v
+      on mid g (Ok out) v = fine_there ss at i is mid g out v
+      on mid g (Err r) v = bad_there ss at i is mid g r v
 
       go : (o : Result (List Step) Refusal) → ItemVerdict ss at i o
           → ((mid : List Step) → ItemFine ss at i mid → Outcome mid (at + length (item_text i)) is (judged_by names (Ok mid) (at + length (item_text i)) is))
           → Outcome ss at (i ∷ is) (judged_by names o (at + length (item_text i)) is)
       go (Ok mid) v rec = on mid v (judged_by names (Ok mid) (at + length (item_text i)) is) (rec mid v)
-      go (Err r) v rec = subst (Outcome ss at (i ∷ is)) (sym (stays-bad r (at + length (item_text i)) is)) (bad-here ss at i is r f.0 v)
+      go (Err r) v rec = subst (Outcome ss at (i ∷ is)) (sym (stays_bad r (at + length (item_text i)) is)) (bad_here ss at i is r f.0 v)
 
-  pub judged-is : (is : List Item) → FineItems is → Outcome [] 0 is (judged names is)
-  judged-is is f = judge [] 0 is f (omega arith)
+  pub judged_is : (is : List Item) → FineItems is → Outcome [] 0 is (judged names is)
+  judged_is is f = judge [] 0 is f (omega arith)
 
   -- one item more
-  judged-more : (o : Result (List Step) Refusal) (at : ℕ) (is : List Item) (i : Item) → judged_by names o at (is ++ i ∷ []) ≡ go_on names (judged_by names o at is) (at + length (items_text is)) i
-  judged-more o at [] i = ap (λ k. go_on names o k i) (omega arith)
-  judged-more o at (j ∷ is) i =
-      judged-more (go_on names o at j) (at + length (item_text j)) is i
+  judged_more : (o : Result (List Step) Refusal) (at : ℕ) (is : List Item) (i : Item) → judged_by names o at (is ++ i ∷ []) ≡ go_on names (judged_by names o at is) (at + length (items_text is)) i
+  judged_more o at [] i = ap (λ k. go_on names o k i) (omega arith)
+  judged_more o at (j ∷ is) i =
+      judged_more (go_on names o at j) (at + length (item_text j)) is i
       ∙ ap (λ k. go_on names (judged_by names (go_on names o at j) (at + length (item_text j)) is) k i) (omega (arith, length-append (item_text j) (items_text is)))
 
   pub judged_snoc : (is : List Item) (i : Item) → judged names (is ++ i ∷ []) ≡ go_on names (judged names is) (length (items_text is)) i
-  judged_snoc is i = judged-more (Ok []) 0 is i ∙ ap (λ k. go_on names (judged names is) k i) (omega arith)
+  judged_snoc is i = judged_more (Ok []) 0 is i ∙ ap (λ k. go_on names (judged names is) k i) (omega arith)

@@ -4,12 +4,12 @@ use Rattle.std.proofs.lemmas.Bool.{cond-true, cond-false, and_parts, eqb-true, t
 use Rattle.names.specs.Classes.{class_of, begins, goes}
 use Rattle.names.specs.Names.{all_go, is_name}
 use Rattle.grammar.specs.Grammar.{Separator, Slash, Slashes, Tested, Named, Written, Dot, Along, Item}
-use Rattle.grammar.specs.Scanner.{State, Whole, Half, Want, OneDot, InName, Colon, AxisWord, Paren, with, tested, ended, test, wanted, colon, kind_test, paren_by, named, step, accept, at_end, onward, scan, heads}
+use Rattle.grammar.specs.Scanner.{State, Whole, Half, Want, OneDot, InName, Colon, AxisWord, Paren, with, tested, ended, test, colon, kind_test, paren_by, named, step, accept, at_end, onward, scan, heads}
 
 -- two states that take the same next byte
-pub same-scan : (p q : State) (s : List ℕ) → accept p ≡ accept q → ((b : ℕ) (t : List ℕ) → s ≡ b ∷ t → step p b ≡ step q b) → scan p s ≡ scan q s
-same-scan p q [] e h = ap at_end e
-same-scan p q (b ∷ s) e h = ap (λ o. onward o (λ r. scan r s) (b ∷ s)) (h b s refl)
+pub same_scan : (p q : State) (s : List ℕ) → accept p ≡ accept q → ((b : ℕ) (t : List ℕ) → s ≡ b ∷ t → step p b ≡ step q b) → scan p s ≡ scan q s
+same_scan p q [] e h = ap at_end e
+same_scan p q (b ∷ s) e h = ap (λ o. onward o (λ r. scan r s) (b ∷ s)) (h b s refl)
 
 pub take_step : (p q : State) (b : ℕ) (s : List ℕ) → step p b ≡ Some q → scan p (b ∷ s) ≡ scan q s
 take_step p q b s e = ap (λ o. onward o (λ r. scan r s) (b ∷ s)) e
@@ -17,9 +17,9 @@ take_step p q b s e = ap (λ o. onward o (λ r. scan r s) (b ∷ s)) e
 pub no_step : (p : State) (b : ℕ) (s : List ℕ) → step p b ≡ None → scan p (b ∷ s) ≡ Err (b ∷ s)
 no_step p b s e = ap (λ o. onward o (λ r. scan r s) (b ∷ s)) e
 
-accept-with : (is : List Item) (k : Separator) (w : Written) → accept (Whole (with is k w)) ≡ Some (with is k w)
-accept-with [] k w = refl
-accept-with (i ∷ is) k w = refl
+accept_with : (is : List Item) (k : Separator) (w : Written) → accept (Whole (with is k w)) ≡ Some (with is k w)
+accept_with [] k w = refl
+accept_with (i ∷ is) k w = refl
 
 head_of : (f : ℕ → Bool) {s : List ℕ} (b : ℕ) (t : List ℕ) → heads f s ≡ false → s ≡ b ∷ t → f b ≡ false
 head_of f b t h e = sym (ap (heads f) e) ∙ h
@@ -32,16 +32,16 @@ not_mark b c g n = go (eqb b c) refl
     go true e = absurd (true≢false (sym g ∙ ap goes (eqb-true b c e) ∙ n))
     go false e = refl
 
-pub begins-goes : (b : ℕ) → begins b ≡ true → goes b ≡ true
-begins-goes b h = ap (λ x. x || eqb (class_of b) 2) h
+pub begins_goes : (b : ℕ) → begins b ≡ true → goes b ≡ true
+begins_goes b h = ap (λ x. x || eqb (class_of b) 2) h
 
 module _ (is : List Item) (k : Separator) where
-  pub dot-ends : (s : List ℕ) → heads (λ b. eqb b 46) s ≡ false → scan (OneDot is k) s ≡ scan (Whole (with is k Dot)) s
-  dot-ends s h =
-      same-scan (OneDot is k) (Whole (with is k Dot)) s (sym (accept-with is k Dot)) (λ b t e. cond-false (eqb b 46) _ _ (head_of (λ b. eqb b 46) b t h e))
+  pub dot_ends : (s : List ℕ) → heads (λ b. eqb b 46) s ≡ false → scan (OneDot is k) s ≡ scan (Whole (with is k Dot)) s
+  dot_ends s h =
+      same_scan (OneDot is k) (Whole (with is k Dot)) s (sym (accept_with is k Dot)) (λ b t e. cond-false (eqb b 46) _ _ (head_of (λ b. eqb b 46) b t h e))
 
-  pub one-dot : (s : List ℕ) → heads (λ b. eqb b 46) s ≡ false → scan (Want is k) (46 ∷ s) ≡ scan (Whole (with is k Dot)) s
-  one-dot s h = dot-ends s h
+  pub one_dot : (s : List ℕ) → heads (λ b. eqb b 46) s ≡ false → scan (Want is k) (46 ∷ s) ≡ scan (Whole (with is k Dot)) s
+  one_dot s h = dot_ends s h
 
   -- a name that has ended
   by_mark : (a : Option (List ℕ)) (n : List ℕ) (b : ℕ) → (a ≡ None → eqb b 58 ≡ false) → (eqb b 40 ≡ false) ⊎ (kind_test n ≡ None)
@@ -56,11 +56,11 @@ module _ (is : List Item) (k : Separator) where
       go a false true ex ey c (inr h) = ap (paren_by is k a) h ∙ sym (ap (ended (with is k (tested a (Named n)))) (eqb-true b 40 ey))
       go a false false ex ey c p = refl
 
-  pub name-ends : (a : Option (List ℕ)) (n s : List ℕ) → heads goes s ≡ false → (a ≡ None → heads (λ b. eqb b 58) s ≡ false)
+  pub name_ends : (a : Option (List ℕ)) (n s : List ℕ) → heads goes s ≡ false → (a ≡ None → heads (λ b. eqb b 58) s ≡ false)
       → (heads (λ b. eqb b 40) s ≡ false) ⊎ (kind_test n ≡ None)
       → scan (InName is k a n) s ≡ scan (Whole (with is k (tested a (Named n)))) s
-  name-ends a n s g c p =
-      same-scan (InName is k a n) (Whole (with is k (tested a (Named n)))) s (sym (accept-with is k (tested a (Named n))))
+  name_ends a n s g c p =
+      same_scan (InName is k a n) (Whole (with is k (tested a (Named n)))) s (sym (accept_with is k (tested a (Named n))))
       (λ b t e. cond-false (goes b) _ _ (head_of goes b t g e) ∙ by_mark a n b (λ z. head_of (λ b. eqb b 58) b t (c z) e) (⊎_elim (λ h. inl (head_of (λ b. eqb b 40) b t h e)) (λ h. inr h) p))
 
   goes_through : (a : Option (List ℕ)) (n m s : List ℕ) → all_go m ≡ true → scan (InName is k a n) (m ++ s) ≡ scan (InName is k a (n ++ m)) s
@@ -71,17 +71,17 @@ module _ (is : List Item) (k : Separator) where
       ∙ goes_through a (n ++ b ∷ []) m s p.1
       ∙ ap (λ l. scan (InName is k a l) s) (append_assoc n (b ∷ []) m)
 
-  test-begins : (a : Option (List ℕ)) (b : ℕ) → begins b ≡ true → test is k a b ≡ Some (InName is k a (b ∷ []))
+  test_begins : (a : Option (List ℕ)) (b : ℕ) → begins b ≡ true → test is k a b ≡ Some (InName is k a (b ∷ []))
   unfolding class_of
-  test-begins a b h = cond-false (eqb b 42) _ _ (not_mark b 42 (begins-goes b h) refl) ∙ cond-true (begins b) _ _ h
+  test_begins a b h = cond-false (eqb b 42) _ _ (not_mark b 42 (begins_goes b h) refl) ∙ cond-true (begins b) _ _ h
 
   -- a name where a step or a test is wanted
-  pub plain-name : (n s : List ℕ) → is_name n ≡ true → scan (Want is k) (n ++ s) ≡ scan (InName is k None n) s
+  pub plain_name : (n s : List ℕ) → is_name n ≡ true → scan (Want is k) (n ++ s) ≡ scan (InName is k None n) s
   unfolding class_of
-  plain-name [] s h = absurd (true≢false (sym h))
-  plain-name (b ∷ n) s h =
+  plain_name [] s h = absurd (true≢false (sym h))
+  plain_name (b ∷ n) s h =
       let p = and_parts (begins b) (all_go n) h in
-      take_step (Want is k) (InName is k None (b ∷ [])) b (n ++ s) (cond-false (eqb b 46) _ _ (no_dot b p.0) ∙ test-begins None b p.0)
+      take_step (Want is k) (InName is k None (b ∷ [])) b (n ++ s) (cond-false (eqb b 46) _ _ (no_dot b p.0) ∙ test_begins None b p.0)
       ∙ goes_through None (b ∷ []) n s p.1
     where
       no_dot : (b : ℕ) → begins b ≡ true → eqb b 46 ≡ false
@@ -95,7 +95,7 @@ module _ (is : List Item) (k : Separator) where
   axis_name a [] s h = absurd (true≢false (sym h))
   axis_name a (b ∷ n) s h =
       let p = and_parts (begins b) (all_go n) h in
-      take_step (AxisWord is k a) (InName is k (Some a) (b ∷ [])) b (n ++ s) (test-begins (Some a) b p.0)
+      take_step (AxisWord is k a) (InName is k (Some a) (b ∷ [])) b (n ++ s) (test_begins (Some a) b p.0)
       ∙ goes_through (Some a) (b ∷ []) n s p.1
 
   -- what follows a name
@@ -108,9 +108,9 @@ module _ (is : List Item) (k : Separator) where
   half_axis n [] h = refl
   half_axis n (b ∷ s) h = no_step (Colon is k n) b s (cond-false (eqb b 58) _ _ h)
 
-  pub kind-ends : (a : Option (List ℕ)) (n s : List ℕ) (t : Tested) → kind_test n ≡ Some t → scan (InName is k a n) (40 ∷ 41 ∷ s) ≡ scan (Whole (with is k (tested a t))) s
+  pub kind_ends : (a : Option (List ℕ)) (n s : List ℕ) (t : Tested) → kind_test n ≡ Some t → scan (InName is k a n) (40 ∷ 41 ∷ s) ≡ scan (Whole (with is k (tested a t))) s
   unfolding class_of
-  kind-ends a n s t e = take_step (InName is k a n) (Paren is k a t) 40 (41 ∷ s) (ap (paren_by is k a) e)
+  kind_ends a n s t e = take_step (InName is k a n) (Paren is k a t) 40 (41 ∷ s) (ap (paren_by is k a) e)
 
   pub half_kind : (a : Option (List ℕ)) (n s : List ℕ) (t : Tested) → kind_test n ≡ Some t → heads (λ b. eqb b 41) s ≡ false → scan (InName is k a n) (40 ∷ s) ≡ Err s
   unfolding class_of
@@ -131,7 +131,7 @@ module _ (is : List Item) (k : Separator) where
 
 -- separators
 pub slash_want : (is : List Item) (s : List ℕ) → heads (λ b. eqb b 47) s ≡ false → scan (Whole is) (47 ∷ s) ≡ scan (Want is Slash) s
-slash_want is s h = same-scan (Half is) (Want is Slash) s refl (λ b t e. cond-false (eqb b 47) _ _ (head_of (λ b. eqb b 47) b t h e))
+slash_want is s h = same_scan (Half is) (Want is Slash) s refl (λ b t e. cond-false (eqb b 47) _ _ (head_of (λ b. eqb b 47) b t h e))
 
 pub slashes_want : (is : List Item) (s : List ℕ) → scan (Whole is) (47 ∷ 47 ∷ s) ≡ scan (Want is Slashes) s
 slashes_want is s = refl

@@ -1,5 +1,5 @@
 -- From the scanner's and the judge's answers to what reading a text answers; and that it is one answer.
-use Rattle.std.proofs.Common.{◌≡◌, ℕ, ◌-◌, ◌≤◌, cond, eqb, ◌⊎◌, List, [], length, Ok, Err, codes, Result, sym, refl, ap, ◌∙◌, subst, inl, inr, ⊎_elim, arith}
+use Rattle.std.proofs.Common.{◌≡◌, ℕ, ◌-◌, ◌≤◌, cond, eqb, List, [], length, Ok, Err, codes, Result, sym, refl, ap, ◌∙◌, subst, inl, inr, ⊎_elim, arith}
 use Rattle.std.proofs.lemmas.Bool.{cases_lt}
 use Rattle.refusal.specs.declared.Ground.{Ground}
 use Rattle.refusal.specs.declared.Ground.TheVariants.{NotPath, UnknownAxis, LongName, UnknownName, TooManySteps}
@@ -11,57 +11,57 @@ use Rattle.chain.specs.declared.chain.Chain.{Chain}
 use Rattle.chain.specs.Chains.{steps_of}
 use Rattle.chain.proofs.Steps.{chains_same}
 use Rattle.grammar.specs.Grammar.{Tested, Written, Item, IsPath, root, items, IsNotPath}
-use Rattle.grammar.specs.Readings.{MeansTest, means-name, means-star, means-text, means-node, MeansStep, means-dot, means-dots, means-plain, means-along, Means, means-none, means-item, ItemFault, unknown_axis, long-name, unknown_name, too_many, Fault, here, there, NoLater, FirstFault, Reads, too_long, no_path, faulty, accepted, ReadAs, ReadsOnce}
+use Rattle.grammar.specs.Readings.{MeansTest, means_name, means_star, means_text, means_node, MeansStep, means_dot, means_dots, means_plain, means_along, Means, means_none, means_item, ItemFault, unknown_axis, long_name, unknown_name, too_many, Fault, here, there, NoLater, FirstFault, Reads, too_long, no_path, faulty, accepted, ReadAs, ReadsOnce}
 use Rattle.grammar.specs.Scanner.{scan, begin}
 use Rattle.grammar.specs.Verdicts.{judged, chained}
 use Rattle.grammar.proofs.Yields.{yield_items}
 use Rattle.grammar.proofs.Reports.{found, not_path, paths_once}
-use Rattle.grammar.proofs.Judging.{Outcome, judged-is, no_fault}
+use Rattle.grammar.proofs.Judging.{Outcome, judged_is, no_fault}
 
 module _ (names : List (List ℕ)) (text : List ℕ) (short : length text ≤ 1024) where
-  pub reads-root : (c : Chain) → text ≡ codes "/" → steps_of c ≡ [] → Reads names text (Ok c)
-  reads-root c e s = accepted short (subst (λ t. IsPath t []) (sym e) root) (λ q h. no_fault names h refl) (subst (Means names []) (sym s) means-none)
+  pub reads_root : (c : Chain) → text ≡ codes "/" → steps_of c ≡ [] → Reads names text (Ok c)
+  reads_root c e s = accepted short (subst (λ t. IsPath t []) (sym e) root) (λ q h. no_fault names h refl) (subst (Means names []) (sym s) means_none)
 
-  pub reads-stuck : (rest : List ℕ) → (text ≡ codes "/" → ⊥) → scan begin text ≡ Err rest → Reads names text (Err (refusal NotPath (length text - length rest)))
-  reads-stuck rest n e = no_path short (not_path text rest n e)
+  pub reads_stuck : (rest : List ℕ) → (text ≡ codes "/" → ⊥) → scan begin text ≡ Err rest → Reads names text (Err (refusal NotPath (length text - length rest)))
+  reads_stuck rest n e = no_path short (not_path text rest n e)
 
-  pub reads-items : (is : List Item) (r : Result Chain Refusal) → scan begin text ≡ Ok is → chained r ≡ judged names is → Reads names text r
-  reads-items is r e j = go r (subst (Outcome names [] 0 is) (sym j) (judged-is names is (yield_items (found text is e)).1))
+  pub reads_items : (is : List Item) (r : Result Chain Refusal) → scan begin text ≡ Ok is → chained r ≡ judged names is → Reads names text r
+  reads_items is r e j = go r (subst (Outcome names [] 0 is) (sym j) (judged_is names is (yield_items (found text is e)).1))
     where
       go : (r : Result Chain Refusal) → Outcome names [] 0 is (chained r) → Reads names text r
       go (Ok c) v = accepted short (items (found text is e)) v.none (subst (Means names is) (sym v.out_is) v.means)
-      go (Err q) v = faulty short (items (found text is e)) (record { is-fault = v.fault; first = v.first })
+      go (Err q) v = faulty short (items (found text is e)) (record { is_fault = v.fault; first = v.first })
 
 -- what items mean is one thing
-one-test : {names : List (List ℕ)} {t : Tested} {u v : Test} → MeansTest names t u → MeansTest names t v → u ≡ v
-one-test (means-name h) (means-name l) = cc
-one-test means-star means-star = refl
-one-test means-text means-text = refl
-one-test means-node means-node = refl
+one_test : {names : List (List ℕ)} {t : Tested} {u v : Test} → MeansTest names t u → MeansTest names t v → u ≡ v
+one_test (means_name h) (means_name l) = cc
+one_test means_star means_star = refl
+one_test means_text means_text = refl
+one_test means_node means_node = refl
 
-one-step : {names : List (List ℕ)} {w : Written} {s t : Step} → MeansStep names w s → MeansStep names w t → s ≡ t
-one-step means-dot means-dot = refl
-one-step means-dots means-dots = refl
-one-step (means-plain h) (means-plain l) = let e = one-test h l in cc
-one-step (means-along a h) (means-along b l) = let e = one-test h l in cc
+one_step : {names : List (List ℕ)} {w : Written} {s t : Step} → MeansStep names w s → MeansStep names w t → s ≡ t
+one_step means_dot means_dot = refl
+one_step means_dots means_dots = refl
+one_step (means_plain h) (means_plain l) = let e = one_test h l in cc
+one_step (means_along a h) (means_along b l) = let e = one_test h l in cc
 
 one_meaning : {names : List (List ℕ)} {is : List Item} {ss tt : List Step} → Means names is ss → Means names is tt → ss ≡ tt
-one_meaning means-none means-none = refl
-one_meaning (means-item h l) (means-item k m) = let e = one-step h k in let f = one_meaning l m in cc
+one_meaning means_none means_none = refl
+one_meaning (means_item h l) (means_item k m) = let e = one_step h k in let f = one_meaning l m in cc
 
 -- a fault's number tells its ground
 by_number : ℕ → Ground
 by_number n = cond (eqb n 13) UnknownAxis (cond (eqb n 14) LongName (cond (eqb n 15) UnknownName TooManySteps))
 
-item-ground : {names : List (List ℕ)} {count at : ℕ} {i : Item} {q : Refusal} → ItemFault names count at i q → by_number (ground_number q.ground) ≡ q.ground
+item_ground : {names : List (List ℕ)} {count at : ℕ} {i : Item} {q : Refusal} → ItemFault names count at i q → by_number (ground_number q.ground) ≡ q.ground
 unfolding by_number
-item-ground (unknown_axis e n) = refl
-item-ground (long-name t l) = refl
-item-ground (unknown_name t l) = refl
-item-ground (too_many l) = refl
+item_ground (unknown_axis e n) = refl
+item_ground (long_name t l) = refl
+item_ground (unknown_name t l) = refl
+item_ground (too_many l) = refl
 
 ground : {names : List (List ℕ)} {count at : ℕ} {is : List Item} {q : Refusal} → Fault names count at is q → by_number (ground_number q.ground) ≡ q.ground
-ground (here f) = item-ground f
+ground (here f) = item_ground f
 ground (there f) = ground f
 
 same_places : (a b : Refusal) → NoLater a b → NoLater b a → (a.place ≡ b.place) × (ground_number a.ground ≡ ground_number b.ground)
@@ -70,10 +70,10 @@ same_places a b (inl h) (inr l) = absurd (omega arith)
 same_places a b (inr h) (inl l) = absurd (omega arith)
 same_places a b (inr h) (inr l) = (h.0, omega arith)
 
-one-fault : {names : List (List ℕ)} {is : List Item} {a b : Refusal} → FirstFault names is a → FirstFault names is b → a ≡ b
-one-fault {a = a} {b = b} h l =
-    let s = same_places a b (h.first b l.is-fault) (l.first a h.is-fault) in
-    let g : a.ground ≡ b.ground = sym (ground h.is-fault) ∙ ap by_number s.1 ∙ ground l.is-fault in
+one_fault : {names : List (List ℕ)} {is : List Item} {a b : Refusal} → FirstFault names is a → FirstFault names is b → a ≡ b
+one_fault {a = a} {b = b} h l =
+    let s = same_places a b (h.first b l.is_fault) (l.first a h.is_fault) in
+    let g : a.ground ≡ b.ground = sym (ground h.is_fault) ∙ ap by_number s.1 ∙ ground l.is_fault in
     λ i. record { ground = g i; place = s.0 i }
 
 one_place : (text : List ℕ) (k j : ℕ) → IsNotPath text k → IsNotPath text j → k ≡ j
@@ -83,25 +83,25 @@ one_place text k j h l =
     (λ ge. ⊎_elim (λ lt. absurd (l.longest k lt h.within h.viable)) (λ le. omega arith) (cases_lt j k))
     (cases_lt k j)
 
-pub reads-once : ReadsOnce
-reads-once names text r q (too_long h) (too_long l) = refl
-reads-once names text r q (too_long h) (no_path l p) = absurd (omega arith)
-reads-once names text r q (too_long h) (faulty l p f) = absurd (omega arith)
-reads-once names text r q (too_long h) (accepted l p n m) = absurd (omega arith)
-reads-once names text r q (no_path h p) (too_long l) = absurd (omega arith)
-reads-once names text r q (no_path {k} h p) (no_path {k = j} l s) = ap (λ n. Err (refusal NotPath n)) (one_place text k j p s)
-reads-once names text r q (no_path h p) (faulty l s f) = absurd (p.none _ s)
-reads-once names text r q (no_path h p) (accepted l s n m) = absurd (p.none _ s)
-reads-once names text r q (faulty h s f) (too_long l) = absurd (omega arith)
-reads-once names text r q (faulty h s f) (no_path l p) = absurd (p.none _ s)
-reads-once names text r q (faulty {is} h s f) (faulty {is = js} {r = x} l t g) = let e = paths_once text is js s t in ap (λ (y : Refusal). Err y) (one-fault f (subst (λ (y : List Item). FirstFault names y x) (sym e) g))
-reads-once names text r q (faulty {is} {r = x} h s f) (accepted {is = js} l t n m) = let e = paths_once text is js s t in absurd (n x (subst (λ (y : List Item). Fault names 0 0 y x) e f.is-fault))
-reads-once names text r q (accepted h s n m) (too_long l) = absurd (omega arith)
-reads-once names text r q (accepted h s n m) (no_path l p) = absurd (p.none _ s)
-reads-once names text r q (accepted {is} h s n m) (faulty {is = js} {r = x} l t f) = let e = paths_once text is js s t in absurd (n x (subst (λ (y : List Item). Fault names 0 0 y x) (sym e) f.is-fault))
-reads-once names text r q (accepted {is} {c} h s n m) (accepted {is = js} {c = d} l t n' m') =
+pub reads_once : ReadsOnce
+reads_once names text r q (too_long h) (too_long l) = refl
+reads_once names text r q (too_long h) (no_path l p) = absurd (omega arith)
+reads_once names text r q (too_long h) (faulty l p f) = absurd (omega arith)
+reads_once names text r q (too_long h) (accepted l p n m) = absurd (omega arith)
+reads_once names text r q (no_path h p) (too_long l) = absurd (omega arith)
+reads_once names text r q (no_path {k} h p) (no_path {k = j} l s) = ap (λ n. Err (refusal NotPath n)) (one_place text k j p s)
+reads_once names text r q (no_path h p) (faulty l s f) = absurd (p.none _ s)
+reads_once names text r q (no_path h p) (accepted l s n m) = absurd (p.none _ s)
+reads_once names text r q (faulty h s f) (too_long l) = absurd (omega arith)
+reads_once names text r q (faulty h s f) (no_path l p) = absurd (p.none _ s)
+reads_once names text r q (faulty {is} h s f) (faulty {is = js} {r = x} l t g) = let e = paths_once text is js s t in ap (λ (y : Refusal). Err y) (one_fault f (subst (λ (y : List Item). FirstFault names y x) (sym e) g))
+reads_once names text r q (faulty {is} {r = x} h s f) (accepted {is = js} l t n m) = let e = paths_once text is js s t in absurd (n x (subst (λ (y : List Item). Fault names 0 0 y x) e f.is_fault))
+reads_once names text r q (accepted h s n m) (too_long l) = absurd (omega arith)
+reads_once names text r q (accepted h s n m) (no_path l p) = absurd (p.none _ s)
+reads_once names text r q (accepted {is} h s n m) (faulty {is = js} {r = x} l t f) = let e = paths_once text is js s t in absurd (n x (subst (λ (y : List Item). Fault names 0 0 y x) (sym e) f.is_fault))
+reads_once names text r q (accepted {is} {c} h s n m) (accepted {is = js} {c = d} l t n' m') =
     let e = paths_once text is js s t in
     ap (λ (x : Chain). Ok x) (chains_same c d (one_meaning m (subst (λ (y : List Item). Means names y (steps_of d)) (sym e) m')))
 
 pub read_as : {names : List (List ℕ)} {text : List ℕ} {r : Result Chain Refusal} → Reads names text r → ReadAs names text r
-read_as {names} {text} {r} h = record { reads = h; only = λ q l. reads-once names text q r l h }
+read_as {names} {text} {r} h = record { reads = h; only = λ q l. reads_once names text q r l h }

@@ -9,8 +9,8 @@ use Rattle.grammar.specs.Grammar.{Separator, Slash, Slashes, Tested, Named, Star
 use Rattle.grammar.specs.Texts.{separator_text, test_text, step_text, item_text, items_text}
 use Rattle.grammar.specs.Scanner.{State, Whole, Half, Want, OneDot, InName, Colon, AxisWord, Paren, with, tested, step, accept, at_end, onward, scan, begin, heads}
 use Rattle.grammar.proofs.Yields.{FineTest, FineStep, FineItems, derive_items, yield_items, items_snoc}
-use Rattle.grammar.proofs.Scans.{Fine, Reached, Good, alive, next, state_text, axis_text, step-text, fine-step, kind-text, kind-fine}
-use Rattle.grammar.proofs.Onward.{take_step, no_step, one-dot, name-ends, plain-name, axis_name, axis_ends, kind-ends, slash_want, slashes_want, not_mark, begins-goes}
+use Rattle.grammar.proofs.Scans.{Fine, Reached, Good, alive, next, state_text, axis_text, step_text_lem, fine_step, kind_text, kind_fine}
+use Rattle.grammar.proofs.Onward.{take_step, no_step, one_dot, name_ends, plain_name, axis_name, axis_ends, kind_ends, slash_want, slashes_want, not_mark, begins_goes}
 
 -- from what has been read to a derivation
 derive_snoc : (is : List Item) (i : Item) → FineItems (is ++ i ∷ []) → IsItems (items_text (is ++ i ∷ [])) (is ++ i ∷ [])
@@ -33,7 +33,7 @@ accepts (Want is k) f js e = absurd (let z : ◌≡◌ {A = ℕ} 0 1 = cc in ome
 accepts (OneDot is k) f js e = let same : with is k Dot ≡ js = cc in subst (IsItems _) same (derive_with is k Dot _ f.before tt refl)
 accepts (InName is k a n) f js e =
     let same : with is k (tested a (Named n)) ≡ js = cc in
-    subst (IsItems _) same (derive_with is k (tested a (Named n)) _ f.before (fine-step a (Named n) f.part.0 f.part.1) (ap (λ s. items_text is ++ (separator_text k ++ s)) (step-text a (Named n))))
+    subst (IsItems _) same (derive_with is k (tested a (Named n)) _ f.before (fine_step a (Named n) f.part.0 f.part.1) (ap (λ s. items_text is ++ (separator_text k ++ s)) (step_text_lem a (Named n))))
 accepts (Colon is k n) f js e = absurd (let z : ◌≡◌ {A = ℕ} 0 1 = cc in omega arith)
 accepts (AxisWord is k n) f js e = absurd (let z : ◌≡◌ {A = ℕ} 0 1 = cc in omega arith)
 accepts (Paren is k a t) f js e = absurd (let z : ◌≡◌ {A = ℕ} 0 1 = cc in omega arith)
@@ -48,10 +48,10 @@ completes (Whole (i ∷ is)) f = ([], i ∷ is, items (subst (λ s. IsItems s (i
 completes (Half is) f = goes_on is Slash Dot _ (codes ".") f.before tt (simp append_assoc)
 completes (Want is k) f = goes_on is k Dot _ (codes ".") f.before tt (simp append_assoc)
 completes (OneDot is k) f = goes_on is k Dot _ [] f.before tt (simp append-nil)
-completes (InName is k a n) f = goes_on is k (tested a (Named n)) _ [] f.before (fine-step a (Named n) f.part.0 f.part.1) (ap (λ s. items_text is ++ (separator_text k ++ s)) (step-text a (Named n)) ∙ simp append-nil)
+completes (InName is k a n) f = goes_on is k (tested a (Named n)) _ [] f.before (fine_step a (Named n) f.part.0 f.part.1) (ap (λ s. items_text is ++ (separator_text k ++ s)) (step_text_lem a (Named n)) ∙ simp append-nil)
 completes (Colon is k n) f = goes_on is k (Along n Star) _ (codes ":*") f.before (f.part, tt) (simp append_assoc)
 completes (AxisWord is k n) f = goes_on is k (Along n Star) _ (codes "*") f.before (f.part, tt) (simp append_assoc)
-completes (Paren is k a t) f = goes_on is k (tested a t) _ (codes ")") f.before (fine-step a t f.part.0 (kind-fine t f.part.1)) (ap (λ s. items_text is ++ (separator_text k ++ s)) (step-text a t ∙ ap (λ s. axis_text a ++ s) (kind-text t f.part.1)) ∙ simp append_assoc)
+completes (Paren is k a t) f = goes_on is k (tested a t) _ (codes ")") f.before (fine_step a t f.part.0 (kind_fine t f.part.1)) (ap (λ s. items_text is ++ (separator_text k ++ s)) (step_text_lem a t ∙ ap (λ s. axis_text a ++ s) (kind_text t f.part.1)) ∙ simp append_assoc)
 
 -- the text leaves every path where rest begins
 pub record Left (text rest : List ℕ) : Type 0 where
@@ -75,22 +75,22 @@ report q (b ∷ s) f = go (step q b) (next q b f) (λ p h. report p s h.fine)
     go None g r = record { front = state_text q; split = refl; viable = completes q f }
     go (Some p) (alive h) r = subst (λ t. Report t (scan p s)) (ap (λ t. t ++ s) h.text ∙ append_assoc (state_text q) (b ∷ []) s) (r p h)
 
-begin-fine : Fine begin
-begin-fine = record { before = tt; part = tt }
+begin_fine : Fine begin
+begin_fine = record { before = tt; part = tt }
 
 pub found : (text : List ℕ) (is : List Item) → scan begin text ≡ Ok is → IsItems text is
-found text is e = subst (Report text) e (report begin text begin-fine)
+found text is e = subst (Report text) e (report begin text begin_fine)
 
 pub left : (text rest : List ℕ) → scan begin text ≡ Err rest → Left text rest
-left text rest e = subst (Report text) e (report begin text begin-fine)
+left text rest e = subst (Report text) e (report begin text begin_fine)
 
 -- from a derivation to what the scanner finds
 abbrev Ended : List ℕ → Type 0
 Ended s = (f : ℕ → Bool) → f 47 ≡ false → heads f s ≡ false
 
-items-ended : (is : List Item) → Ended (items_text is)
-items-ended [] f h = refl
-items-ended (i ∷ is) f h = go i.separator
+items_ended : (is : List Item) → Ended (items_text is)
+items_ended [] f h = refl
+items_ended (i ∷ is) f h = go i.separator
   where
     go : (k : Separator) → heads f ((separator_text k ++ step_text i.step) ++ items_text is) ≡ false
     go Slash = h
@@ -99,32 +99,32 @@ items-ended (i ∷ is) f h = go i.separator
 module _ (acc : List Item) (k : Separator) (rest : List ℕ) (end : Ended rest) where
   plain_through : (t : Tested) → FineTest t → scan (Want acc k) (test_text t ++ rest) ≡ scan (Whole (with acc k (Plain t))) rest
   unfolding class_of
-  plain_through (Named n) h = plain-name acc k n rest h ∙ name-ends acc k None n rest (end goes refl) (λ e. end (λ b. eqb b 58) refl) (inl (end (λ b. eqb b 40) refl))
+  plain_through (Named n) h = plain_name acc k n rest h ∙ name_ends acc k None n rest (end goes refl) (λ e. end (λ b. eqb b 58) refl) (inl (end (λ b. eqb b 40) refl))
   plain_through Star h = refl
-  plain_through Texts h = plain-name acc k (codes "text") (40 ∷ 41 ∷ rest) refl ∙ kind-ends acc k None (codes "text") rest Texts refl
-  plain_through Nodes h = plain-name acc k (codes "node") (40 ∷ 41 ∷ rest) refl ∙ kind-ends acc k None (codes "node") rest Nodes refl
+  plain_through Texts h = plain_name acc k (codes "text") (40 ∷ 41 ∷ rest) refl ∙ kind_ends acc k None (codes "text") rest Texts refl
+  plain_through Nodes h = plain_name acc k (codes "node") (40 ∷ 41 ∷ rest) refl ∙ kind_ends acc k None (codes "node") rest Nodes refl
 
   axis_through : (a : List ℕ) (t : Tested) → FineTest t → scan (AxisWord acc k a) (test_text t ++ rest) ≡ scan (Whole (with acc k (Along a t))) rest
   unfolding class_of
-  axis_through a (Named n) h = axis_name acc k a n rest h ∙ name-ends acc k (Some a) n rest (end goes refl) (λ e. end (λ b. eqb b 58) refl) (inl (end (λ b. eqb b 40) refl))
+  axis_through a (Named n) h = axis_name acc k a n rest h ∙ name_ends acc k (Some a) n rest (end goes refl) (λ e. end (λ b. eqb b 58) refl) (inl (end (λ b. eqb b 40) refl))
   axis_through a Star h = refl
-  axis_through a Texts h = axis_name acc k a (codes "text") (40 ∷ 41 ∷ rest) refl ∙ kind-ends acc k (Some a) (codes "text") rest Texts refl
-  axis_through a Nodes h = axis_name acc k a (codes "node") (40 ∷ 41 ∷ rest) refl ∙ kind-ends acc k (Some a) (codes "node") rest Nodes refl
+  axis_through a Texts h = axis_name acc k a (codes "text") (40 ∷ 41 ∷ rest) refl ∙ kind_ends acc k (Some a) (codes "text") rest Texts refl
+  axis_through a Nodes h = axis_name acc k a (codes "node") (40 ∷ 41 ∷ rest) refl ∙ kind_ends acc k (Some a) (codes "node") rest Nodes refl
 
   step_through : (w : Written) → FineStep w → scan (Want acc k) (step_text w ++ rest) ≡ scan (Whole (with acc k w)) rest
-  step_through Dot h = one-dot acc k rest (end (λ b. eqb b 46) refl)
+  step_through Dot h = one_dot acc k rest (end (λ b. eqb b 46) refl)
   step_through Dots h = refl
   step_through (Plain t) h = plain_through t h
   step_through (Along a t) h =
       ap (scan (Want acc k)) (append_assoc a (58 ∷ 58 ∷ test_text t) rest)
-      ∙ plain-name acc k a (58 ∷ 58 ∷ (test_text t ++ rest)) h.0
+      ∙ plain_name acc k a (58 ∷ 58 ∷ (test_text t ++ rest)) h.0
       ∙ axis_ends acc k a (test_text t ++ rest)
       ∙ axis_through a t h.1
 
 name_head : (n s : List ℕ) → is_name n ≡ true → heads (λ b. eqb b 47) (n ++ s) ≡ false
 unfolding class_of
 name_head [] s h = absurd (true≢false (sym h))
-name_head (b ∷ n) s h = not_mark b 47 (begins-goes b (and_parts (begins b) (all_go n) h).0) refl
+name_head (b ∷ n) s h = not_mark b 47 (begins_goes b (and_parts (begins b) (all_go n) h).0) refl
 
 step_head : (w : Written) (s : List ℕ) → FineStep w → heads (λ b. eqb b 47) (step_text w ++ s) ≡ false
 step_head Dot s h = refl
@@ -148,7 +148,7 @@ item_through acc i rest end h =
 items_through : (acc is : List Item) → FineItems is → scan (Whole acc) (items_text is) ≡ scan (Whole (acc ++ is)) []
 items_through acc [] h = ap (λ l. scan (Whole l) []) (sym (append-nil acc))
 items_through acc (i ∷ is) h =
-    item_through acc i (items_text is) (items-ended is) h.0
+    item_through acc i (items_text is) (items_ended is) h.0
     ∙ items_through (acc ++ i ∷ []) is h.1
     ∙ ap (λ l. scan (Whole l) []) (append_assoc acc (i ∷ []) is)
 
@@ -186,9 +186,9 @@ ok_err : (is : List Item) (rest : List ℕ) (r : Result (List Item) (List ℕ)) 
 ok_err is rest r p q = let z : ◌≡◌ {A = ℕ} 0 1 = cc in omega arith
 
 -- a path that the scanner gets stuck in is the root's alone
-only-root : {s : List ℕ} {is : List Item} → IsPath s is → (rest : List ℕ) → scan begin s ≡ Err rest → (s ≡ codes "/") × (rest ≡ [])
-only-root root rest e = let same : [] ≡ rest = cc in (refl, sym same)
-only-root (items h) rest e = absurd (ok_err _ rest _ (finds h) e)
+only_root : {s : List ℕ} {is : List Item} → IsPath s is → (rest : List ℕ) → scan begin s ≡ Err rest → (s ≡ codes "/") × (rest ≡ [])
+only_root root rest e = let same : [] ≡ rest = cc in (refl, sym same)
+only_root (items h) rest e = absurd (ok_err _ rest _ (finds h) e)
 
 beyond : (f : List ℕ) (b : ℕ) (r : List ℕ) (j : ℕ) → length f < j → (u : List ℕ) × (take j (f ++ b ∷ r) ≡ f ++ b ∷ u)
 beyond f b r zero lt = absurd (omega arith)
@@ -202,7 +202,7 @@ not_path text rest no-root e =
     let k : length text - length rest ≡ length l.front = omega arith in
     let front : take (length text - length rest) text ≡ l.front = ap (λ n. take n text) k ∙ ap (take (length l.front)) l.split ∙ take_at l.front rest _ refl in
     record {
-      none = λ is p. no-root (only-root p rest e).0;
+      none = λ is p. no-root (only_root p rest e).0;
       within = omega arith;
       viable = subst Viable (sym front) l.viable;
       longest = λ j lt le v. past rest e j lt le v;
@@ -215,7 +215,7 @@ not_path text rest no-root e =
         let long : length text ≡ length h.front + length (b ∷ r) = ap length h.split ∙ length-append h.front (b ∷ r) in
         let more = beyond h.front b r j (omega arith) in
         let whole : take j text ++ v.0 ≡ h.front ++ b ∷ (more.0 ++ v.0) = ap (λ s. take j s ++ v.0) h.split ∙ ap (λ s. s ++ v.0) more.1 ∙ append_assoc h.front (b ∷ more.0) v.0 in
-        let none : b ∷ (more.0 ++ v.0) ≡ [] = (only-root v.2 _ (ap (scan begin) whole ∙ h.stays (more.0 ++ v.0))).1 in
+        let none : b ∷ (more.0 ++ v.0) ≡ [] = (only_root v.2 _ (ap (scan begin) whole ∙ h.stays (more.0 ++ v.0))).1 in
         omega (arith, ap length none)
 
 root_empty : {s : List ℕ} {is : List Item} → IsPath s is → s ≡ codes "/" → is ≡ []

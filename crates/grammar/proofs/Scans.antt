@@ -82,13 +82,13 @@ by_cond : {t : List ℕ} (x : Bool) {o p : Option State} → (x ≡ true → Goo
 by_cond true f g = f refl
 by_cond false f g = g refl
 
-pub step-text : (a : Option (List ℕ)) (t : Tested) → step_text (tested a t) ≡ axis_text a ++ test_text t
-step-text None t = refl
-step-text (Some a) t = sym (append_assoc a (codes "::") (test_text t))
+pub step_text_lem : (a : Option (List ℕ)) (t : Tested) → step_text (tested a t) ≡ axis_text a ++ test_text t
+step_text_lem None t = refl
+step_text_lem (Some a) t = sym (append_assoc a (codes "::") (test_text t))
 
-pub fine-step : (a : Option (List ℕ)) (t : Tested) → FineAxis a → FineTest t → FineStep (tested a t)
-fine-step None t h l = l
-fine-step (Some a) t h l = (h, l)
+pub fine_step : (a : Option (List ℕ)) (t : Tested) → FineAxis a → FineTest t → FineStep (tested a t)
+fine_step None t h l = l
+fine_step (Some a) t h l = (h, l)
 
 reach_whole : (is : List Item) (k : Separator) (w : Written) (t : List ℕ) → FineItems is → FineStep w → items_text is ++ (separator_text k ++ step_text w) ≡ t → Reached t (Whole (with is k w))
 reach_whole is k w t h l e = record {
@@ -96,23 +96,23 @@ reach_whole is k w t h l e = record {
   fine = record { before = All-push (λ i. FineStep i.step) is (record { separator = k; step = w }) h l; part = tt };
 }
 
-good-ended : (is : List Item) (b : ℕ) (t : List ℕ) → FineItems is → items_text is ++ b ∷ [] ≡ t → Good t (ended is b)
-good-ended is b t h e = by_cond (eqb b 47) (λ x. alive (record { text = ap (λ c. items_text is ++ c ∷ []) (sym (eqb-true b 47 x)) ∙ e; fine = record { before = h; part = tt } })) (λ x. dead)
+good_ended : (is : List Item) (b : ℕ) (t : List ℕ) → FineItems is → items_text is ++ b ∷ [] ≡ t → Good t (ended is b)
+good_ended is b t h e = by_cond (eqb b 47) (λ x. alive (record { text = ap (λ c. items_text is ++ c ∷ []) (sym (eqb-true b 47 x)) ∙ e; fine = record { before = h; part = tt } })) (λ x. dead)
 
 one_name : (b : ℕ) → begins b ≡ true → is_name (b ∷ []) ≡ true
 one_name b h = and_from (begins b) true h refl
 
-good-test : (is : List Item) (k : Separator) (a : Option (List ℕ)) (b : ℕ) (t : List ℕ) → FineItems is → FineAxis a → items_text is ++ (separator_text k ++ (axis_text a ++ b ∷ [])) ≡ t → Good t (test is k a b)
-good-test is k a b t h l e =
+good_test : (is : List Item) (k : Separator) (a : Option (List ℕ)) (b : ℕ) (t : List ℕ) → FineItems is → FineAxis a → items_text is ++ (separator_text k ++ (axis_text a ++ b ∷ [])) ≡ t → Good t (test is k a b)
+good_test is k a b t h l e =
     by_cond (eqb b 42)
-    (λ x. alive (reach_whole is k (tested a Star) t h (fine-step a Star l tt) (ap (λ s. items_text is ++ (separator_text k ++ s)) (step-text a Star ∙ ap (λ c. axis_text a ++ c ∷ []) (sym (eqb-true b 42 x))) ∙ e)))
+    (λ x. alive (reach_whole is k (tested a Star) t h (fine_step a Star l tt) (ap (λ s. items_text is ++ (separator_text k ++ s)) (step_text_lem a Star ∙ ap (λ c. axis_text a ++ c ∷ []) (sym (eqb-true b 42 x))) ∙ e)))
     (λ x. by_cond (begins b) (λ y. alive (record { text = e; fine = record { before = h; part = (l, one_name b y) } })) (λ y. dead))
 
-good-wanted : (is : List Item) (k : Separator) (b : ℕ) (t : List ℕ) → FineItems is → items_text is ++ (separator_text k ++ b ∷ []) ≡ t → Good t (wanted is k b)
-good-wanted is k b t h e =
+good_wanted : (is : List Item) (k : Separator) (b : ℕ) (t : List ℕ) → FineItems is → items_text is ++ (separator_text k ++ b ∷ []) ≡ t → Good t (wanted is k b)
+good_wanted is k b t h e =
     by_cond (eqb b 46)
     (λ x. alive (record { text = ap (λ c. items_text is ++ (separator_text k ++ c ∷ [])) (sym (eqb-true b 46 x)) ∙ e; fine = record { before = h; part = tt } }))
-    (λ x. good-test is k None b t h tt e)
+    (λ x. good_test is k None b t h tt e)
 
 all_goes : (n : List ℕ) (b : ℕ) → all_go n ≡ true → goes b ≡ true → all_go (n ++ b ∷ []) ≡ true
 all_goes [] b h g = and_from (goes b) true g refl
@@ -122,57 +122,57 @@ pub longer : (n : List ℕ) (b : ℕ) → is_name n ≡ true → goes b ≡ true
 longer [] b h g = absurd (true≢false (sym h))
 longer (c ∷ n) b h g = let p = and_parts (begins c) (all_go n) h in and_from (begins c) _ p.0 (all_goes n b p.1 g)
 
-good-kind : (is : List Item) (k : Separator) (a : Option (List ℕ)) (n : List ℕ) (t : List ℕ) → FineItems is → FineAxis a → items_text is ++ (separator_text k ++ (axis_text a ++ (n ++ codes "("))) ≡ t → Good t (paren_by is k a (kind_test n))
-good-kind is k a n t h l e = go (bytes_eq n (codes "text")) (bytes_eq n (codes "node")) refl refl
+good_kind : (is : List Item) (k : Separator) (a : Option (List ℕ)) (n : List ℕ) (t : List ℕ) → FineItems is → FineAxis a → items_text is ++ (separator_text k ++ (axis_text a ++ (n ++ codes "("))) ≡ t → Good t (paren_by is k a (kind_test n))
+good_kind is k a n t h l e = go (bytes_eq n (codes "text")) (bytes_eq n (codes "node")) refl refl
   where
     go : (x y : Bool) → bytes_eq n (codes "text") ≡ x → bytes_eq n (codes "node") ≡ y → Good t (paren_by is k a (cond x (Some Texts) (cond y (Some Nodes) None)))
     go true y p q = alive (record { text = ap (λ m. items_text is ++ (separator_text k ++ (axis_text a ++ (m ++ codes "(")))) (sym ((bytes_eq-Decides n (codes "text")).0 p)) ∙ e; fine = record { before = h; part = (l, tt) } })
     go false true p q = alive (record { text = ap (λ m. items_text is ++ (separator_text k ++ (axis_text a ++ (m ++ codes "(")))) (sym ((bytes_eq-Decides n (codes "node")).0 q)) ∙ e; fine = record { before = h; part = (l, tt) } })
     go false false p q = dead
 
-good-colon : (is : List Item) (k : Separator) (a : Option (List ℕ)) (n : List ℕ) (t : List ℕ) → FineItems is → is_name n ≡ true → items_text is ++ (separator_text k ++ (axis_text a ++ (n ++ codes ":"))) ≡ t → Good t (colon is k a n)
-good-colon is k None n t h l e = alive (record { text = e; fine = record { before = h; part = l } })
-good-colon is k (Some a) n t h l e = dead
+good_colon : (is : List Item) (k : Separator) (a : Option (List ℕ)) (n : List ℕ) (t : List ℕ) → FineItems is → is_name n ≡ true → items_text is ++ (separator_text k ++ (axis_text a ++ (n ++ codes ":"))) ≡ t → Good t (colon is k a n)
+good_colon is k None n t h l e = alive (record { text = e; fine = record { before = h; part = l } })
+good_colon is k (Some a) n t h l e = dead
 
-pub kind-text : (t : Tested) → IsKind t → test_text t ≡ paren_text t ++ codes ")"
-kind-text (Named n) h = absurd h
-kind-text Star h = absurd h
-kind-text Texts h = refl
-kind-text Nodes h = refl
+pub kind_text : (t : Tested) → IsKind t → test_text t ≡ paren_text t ++ codes ")"
+kind_text (Named n) h = absurd h
+kind_text Star h = absurd h
+kind_text Texts h = refl
+kind_text Nodes h = refl
 
-pub kind-fine : (t : Tested) → IsKind t → FineTest t
-kind-fine (Named n) h = absurd h
-kind-fine Star h = absurd h
-kind-fine Texts h = tt
-kind-fine Nodes h = tt
+pub kind_fine : (t : Tested) → IsKind t → FineTest t
+kind_fine (Named n) h = absurd h
+kind_fine Star h = absurd h
+kind_fine Texts h = tt
+kind_fine Nodes h = tt
 
 -- a step of the scanner reads its byte
 pub next : (q : State) (b : ℕ) → Fine q → Good (state_text q ++ b ∷ []) (step q b)
-next (Whole is) b f = good-ended is b _ f.before (simp append-nil)
+next (Whole is) b f = good_ended is b _ f.before (simp append-nil)
 next (Half is) b f =
     by_cond (eqb b 47)
     (λ x. alive (record { text = ap (λ c. items_text is ++ 47 ∷ c ∷ []) (sym (eqb-true b 47 x)) ∙ sym (append_assoc (items_text is) (codes "/") (b ∷ [])); fine = record { before = f.before; part = tt } }))
-    (λ x. good-wanted is Slash b _ f.before (sym (append_assoc (items_text is) (codes "/") (b ∷ []))))
-next (Want is k) b f = good-wanted is k b _ f.before (simp append_assoc)
+    (λ x. good_wanted is Slash b _ f.before (sym (append_assoc (items_text is) (codes "/") (b ∷ []))))
+next (Want is k) b f = good_wanted is k b _ f.before (simp append_assoc)
 next (OneDot is k) b f =
     by_cond (eqb b 46)
     (λ x. alive (reach_whole is k Dots _ f.before tt (ap (λ c. items_text is ++ (separator_text k ++ 46 ∷ c ∷ [])) (sym (eqb-true b 46 x)) ∙ simp append_assoc)))
-    (λ x. good-ended (with is k Dot) b _ (All-push (λ i. FineStep i.step) is _ f.before tt) (ap (λ s. s ++ b ∷ []) (items_snoc is (record { separator = k; step = Dot }))))
+    (λ x. good_ended (with is k Dot) b _ (All-push (λ i. FineStep i.step) is _ f.before tt) (ap (λ s. s ++ b ∷ []) (items_snoc is (record { separator = k; step = Dot }))))
 next (InName is k a n) b f =
     by_cond (goes b)
     (λ x. alive (record { text = simp append_assoc; fine = record { before = f.before; part = (f.part.0, longer n b f.part.1 x) } }))
     (λ x. by_cond (eqb b 58)
-    (λ y. good-colon is k a n _ f.before f.part.1 (ap (λ c. items_text is ++ (separator_text k ++ (axis_text a ++ (n ++ c ∷ [])))) (sym (eqb-true b 58 y)) ∙ simp append_assoc))
+    (λ y. good_colon is k a n _ f.before f.part.1 (ap (λ c. items_text is ++ (separator_text k ++ (axis_text a ++ (n ++ c ∷ [])))) (sym (eqb-true b 58 y)) ∙ simp append_assoc))
     (λ y. by_cond (eqb b 40)
-    (λ z. good-kind is k a n _ f.before f.part.0 (ap (λ c. items_text is ++ (separator_text k ++ (axis_text a ++ (n ++ c ∷ [])))) (sym (eqb-true b 40 z)) ∙ simp append_assoc))
-    (λ z. good-ended (with is k (tested a (Named n))) b _ (All-push (λ i. FineStep i.step) is _ f.before (fine-step a (Named n) f.part.0 f.part.1)) (ap (λ s. s ++ b ∷ []) (items_snoc is (record { separator = k; step = tested a (Named n) }) ∙ ap (λ s. items_text is ++ (separator_text k ++ s)) (step-text a (Named n))))))
+    (λ z. good_kind is k a n _ f.before f.part.0 (ap (λ c. items_text is ++ (separator_text k ++ (axis_text a ++ (n ++ c ∷ [])))) (sym (eqb-true b 40 z)) ∙ simp append_assoc))
+    (λ z. good_ended (with is k (tested a (Named n))) b _ (All-push (λ i. FineStep i.step) is _ f.before (fine_step a (Named n) f.part.0 f.part.1)) (ap (λ s. s ++ b ∷ []) (items_snoc is (record { separator = k; step = tested a (Named n) }) ∙ ap (λ s. items_text is ++ (separator_text k ++ s)) (step_text_lem a (Named n))))))
     )
 next (Colon is k n) b f =
     by_cond (eqb b 58)
     (λ x. alive (record { text = ap (λ c. items_text is ++ (separator_text k ++ (n ++ 58 ∷ c ∷ []))) (sym (eqb-true b 58 x)) ∙ simp append_assoc; fine = record { before = f.before; part = f.part } }))
     (λ x. dead)
-next (AxisWord is k n) b f = good-test is k (Some n) b _ f.before f.part (simp append_assoc)
+next (AxisWord is k n) b f = good_test is k (Some n) b _ f.before f.part (simp append_assoc)
 next (Paren is k a t) b f =
     by_cond (eqb b 41)
-    (λ x. alive (reach_whole is k (tested a t) _ f.before (fine-step a t f.part.0 (kind-fine t f.part.1)) (ap (λ s. items_text is ++ (separator_text k ++ s)) (step-text a t ∙ ap (λ s. axis_text a ++ s) (kind-text t f.part.1 ∙ ap (λ c. paren_text t ++ c ∷ []) (sym (eqb-true b 41 x)))) ∙ simp append_assoc)))
+    (λ x. alive (reach_whole is k (tested a t) _ f.before (fine_step a t f.part.0 (kind_fine t f.part.1)) (ap (λ s. items_text is ++ (separator_text k ++ s)) (step_text_lem a t ∙ ap (λ s. axis_text a ++ s) (kind_text t f.part.1 ∙ ap (λ c. paren_text t ++ c ∷ []) (sym (eqb-true b 41 x)))) ∙ simp append_assoc)))
     (λ x. dead)

@@ -12,7 +12,7 @@ use Rattle.chain.specs.declared.Step.{Step}
 use Rattle.chain.specs.declared.chain.Chain.{Chain}
 use Rattle.chain.specs.Axes.{word_of, axis_of}
 use Rattle.chain.specs.Chains.{steps_of}
-use Rattle.chain.proofs.Steps.{few-steps}
+use Rattle.chain.proofs.Steps.{few_steps}
 use Rattle.chain.proofs.Words.{word_back}
 use Rattle.names.specs.Classes.{class_of}
 use Rattle.names.specs.Names.{is_name}
@@ -20,7 +20,7 @@ use Rattle.names.specs.Lists.{number_of, name_of, Proper}
 use Rattle.names.proofs.Numbers.{number_of_name, name_of_number}
 use Rattle.grammar.specs.Grammar.{Slash, Tested, Named, Star, Texts, Nodes, Written, Along, Item, IsItems, IsPath, root, items}
 use Rattle.grammar.specs.Texts.{test_text, item_text, items_text}
-use Rattle.grammar.specs.Readings.{MeansTest, means-name, means-star, means-text, means-node, MeansStep, means-dot, means-dots, means-plain, means-along, Means, means-none, means-item, hidden, step_count, TestsName, tests_plain, tests_along, ItemFault, unknown_axis, long-name, unknown_name, too_many, Fault, here, there, Reads, accepted}
+use Rattle.grammar.specs.Readings.{MeansTest, means_name, means_star, means_text, means_node, MeansStep, means_dot, means_dots, means_plain, means_along, Means, means_none, means_item, hidden, step_count, TestsName, tests_plain, tests_along, ItemFault, unknown_axis, long_name, unknown_name, too_many, Fault, here, there, Reads, accepted}
 use Rattle.grammar.specs.LongForm.{or_nothing, long_test, long_step, long_steps, long_form, is_none, unlisted, unlisted_from, first_unlisted, ReadsBack}
 use Rattle.grammar.proofs.Yields.{FineTest, FineItems, derive_items}
 
@@ -87,15 +87,15 @@ module _ (names : List (List ℕ)) (proper : Proper names) where
   items_for [] = []
   items_for (s ∷ ss) = item_for s ∷ items_for ss
 
-  test-same : (t : Test) → test_text (test_for t) ≡ long_test names t
-  test-same (Name k) = refl
-  test-same AnyElement = refl
-  test-same AnyText = refl
-  test-same AnyNode = refl
+  test_same : (t : Test) → test_text (test_for t) ≡ long_test names t
+  test_same (Name k) = refl
+  test_same AnyElement = refl
+  test_same AnyText = refl
+  test_same AnyNode = refl
 
   text_same : (ss : List Step) → items_text (items_for ss) ≡ long_steps names ss
   text_same [] = refl
-  text_same (s ∷ ss) = ap (λ l. (47 ∷ (word_of s.axis ++ 58 ∷ 58 ∷ l)) ++ items_text (items_for ss)) (test-same s.test) ∙ ap (λ l. long_step names s ++ l) (text_same ss)
+  text_same (s ∷ ss) = ap (λ l. (47 ∷ (word_of s.axis ++ 58 ∷ 58 ∷ l)) ++ items_text (items_for ss)) (test_same s.test) ∙ ap (λ l. long_step names s ++ l) (text_same ss)
 
   -- a test whose name is in the list
   pub record Known (t : Test) : Type 0 where
@@ -113,12 +113,12 @@ module _ (names : List (List ℕ)) (proper : Proper names) where
           let same : or_nothing (name_of names k) ≡ n = ap or_nothing e in
           record {
             fine = ap is_name same ∙ l.fits_name;
-            means = subst (λ (m : List ℕ). MeansTest names (Named m) (Name k)) (sym same) (means-name l.number);
+            means = subst (λ (m : List ℕ). MeansTest names (Named m) (Name k)) (sym same) (means_name l.number);
             short = subst (λ (m : List ℕ). length m ≤ 32) (sym same) l.short;
           }
-  known AnyElement h = record { fine = tt; means = means-star; short = omega arith }
-  known AnyText h = record { fine = tt; means = means-text; short = omega arith }
-  known AnyNode h = record { fine = tt; means = means-node; short = omega arith }
+  known AnyElement h = record { fine = tt; means = means_star; short = omega arith }
+  known AnyText h = record { fine = tt; means = means_text; short = omega arith }
+  known AnyNode h = record { fine = tt; means = means_node; short = omega arith }
 
   -- steps whose names are all in the list
   pub record AllKnown (ss : List Step) : Type 0 where
@@ -127,7 +127,7 @@ module _ (names : List (List ℕ)) (proper : Proper names) where
     pub short : length (long_steps names ss) ≤ 53 * length ss
 
   all_known : (k : ℕ) (ss : List Step) → unlisted_from names k ss ≡ None → AllKnown ss
-  all_known k [] h = record { fine = tt; means = means-none; short = omega arith }
+  all_known k [] h = record { fine = tt; means = means_none; short = omega arith }
   all_known k (s ∷ ss) h = go (unlisted names s.test) refl h (λ e. all_known (k + 1) ss e)
     where
       go : (x : Bool) → unlisted names s.test ≡ x → cond x (Some k) (unlisted_from names (k + 1) ss) ≡ None → (unlisted_from names (k + 1) ss ≡ None → AllKnown ss) → AllKnown (s ∷ ss)
@@ -138,60 +138,60 @@ module _ (names : List (List ℕ)) (proper : Proper names) where
           let w = word_short s.axis in
           record {
             fine = ((word_name s.axis, t.fine), r.fine);
-            means = means-item (means-along (word_back s.axis) t.means) r.means;
+            means = means_item (means_along (word_back s.axis) t.means) r.means;
             short = omega (arith, t.short, r.short, length-append (word_of s.axis) (58 ∷ 58 ∷ long_test names s.test), length-append (long_step names s) (long_steps names ss));
           }
 
   -- what is understood and has no more than fifteen steps has no fault
   in_test : {t : Tested} {u : Test} → MeansTest names t u → (n : List ℕ) → t ≡ Named n → (length n ≤ 32) × (number_of names n ≡ None → ⊥)
-  in_test (means-name {n = m} {k} h) n e =
+  in_test (means_name {n = m} {k} h) n e =
       let same : m ≡ n = cc in
       let l = listed k m (name_of_number names m k h) in
       (subst (λ (x : List ℕ). length x ≤ 32) same l.short, λ z. let y : ◌≡◌ {A = ℕ} 0 1 = cc in omega arith)
-  in_test means-star n e = absurd (let y : ◌≡◌ {A = ℕ} 0 1 = cc in omega arith)
-  in_test means-text n e = absurd (let y : ◌≡◌ {A = ℕ} 0 1 = cc in omega arith)
-  in_test means-node n e = absurd (let y : ◌≡◌ {A = ℕ} 0 1 = cc in omega arith)
+  in_test means_star n e = absurd (let y : ◌≡◌ {A = ℕ} 0 1 = cc in omega arith)
+  in_test means_text n e = absurd (let y : ◌≡◌ {A = ℕ} 0 1 = cc in omega arith)
+  in_test means_node n e = absurd (let y : ◌≡◌ {A = ℕ} 0 1 = cc in omega arith)
 
   in_step : {w v : Written} {s : Step} {n : List ℕ} {d : ℕ} → MeansStep names w s → TestsName v n d → v ≡ w → (length n ≤ 32) × (number_of names n ≡ None → ⊥)
-  in_step means-dot tests_plain e = absurd (let y : ◌≡◌ {A = ℕ} 0 1 = cc in omega arith)
-  in_step means-dot tests_along e = absurd (let y : ◌≡◌ {A = ℕ} 0 1 = cc in omega arith)
-  in_step means-dots tests_plain e = absurd (let y : ◌≡◌ {A = ℕ} 0 1 = cc in omega arith)
-  in_step means-dots tests_along e = absurd (let y : ◌≡◌ {A = ℕ} 0 1 = cc in omega arith)
-  in_step (means-plain h) (tests_plain {n}) e = in_test h n (cc)
-  in_step (means-plain h) tests_along e = absurd (let y : ◌≡◌ {A = ℕ} 0 1 = cc in omega arith)
-  in_step (means-along a h) tests_plain e = absurd (let y : ◌≡◌ {A = ℕ} 0 1 = cc in omega arith)
-  in_step (means-along a h) (tests_along {n = n}) e = in_test h n (cc)
+  in_step means_dot tests_plain e = absurd (let y : ◌≡◌ {A = ℕ} 0 1 = cc in omega arith)
+  in_step means_dot tests_along e = absurd (let y : ◌≡◌ {A = ℕ} 0 1 = cc in omega arith)
+  in_step means_dots tests_plain e = absurd (let y : ◌≡◌ {A = ℕ} 0 1 = cc in omega arith)
+  in_step means_dots tests_along e = absurd (let y : ◌≡◌ {A = ℕ} 0 1 = cc in omega arith)
+  in_step (means_plain h) (tests_plain {n}) e = in_test h n (cc)
+  in_step (means_plain h) tests_along e = absurd (let y : ◌≡◌ {A = ℕ} 0 1 = cc in omega arith)
+  in_step (means_along a h) tests_plain e = absurd (let y : ◌≡◌ {A = ℕ} 0 1 = cc in omega arith)
+  in_step (means_along a h) (tests_along {n = n}) e = in_test h n (cc)
 
   in_axis : {w : Written} {s : Step} {a : List ℕ} {t : Tested} → MeansStep names w s → w ≡ Along a t → axis_of a ≡ None → ⊥
-  in_axis means-dot e n = let y : ◌≡◌ {A = ℕ} 0 1 = cc in omega arith
-  in_axis means-dots e n = let y : ◌≡◌ {A = ℕ} 0 1 = cc in omega arith
-  in_axis (means-plain h) e n = let y : ◌≡◌ {A = ℕ} 0 1 = cc in omega arith
-  in_axis {a = a} (means-along {w = b} k h) e n = let same : a ≡ b = cc in let y : ◌≡◌ {A = ℕ} 0 1 = cc in omega arith
+  in_axis means_dot e n = let y : ◌≡◌ {A = ℕ} 0 1 = cc in omega arith
+  in_axis means_dots e n = let y : ◌≡◌ {A = ℕ} 0 1 = cc in omega arith
+  in_axis (means_plain h) e n = let y : ◌≡◌ {A = ℕ} 0 1 = cc in omega arith
+  in_axis {a = a} (means_along {w = b} k h) e n = let same : a ≡ b = cc in let y : ◌≡◌ {A = ℕ} 0 1 = cc in omega arith
 
-  no_item-fault : {count at : ℕ} {i : Item} {s : Step} {q : Refusal} → MeansStep names i.step s → count + step_count i ≤ 15 → ItemFault names count at i q → ⊥
-  no_item-fault m le (unknown_axis e n) = in_axis m e n
-  no_item-fault m le (long-name t l) = let p = (in_step m t refl).0 in omega arith
-  no_item-fault m le (unknown_name t l) = (in_step m t refl).1 l
-  no_item-fault m le (too_many l) = omega arith
+  no_item_fault : {count at : ℕ} {i : Item} {s : Step} {q : Refusal} → MeansStep names i.step s → count + step_count i ≤ 15 → ItemFault names count at i q → ⊥
+  no_item_fault m le (unknown_axis e n) = in_axis m e n
+  no_item_fault m le (long_name t l) = let p = (in_step m t refl).0 in omega arith
+  no_item_fault m le (unknown_name t l) = (in_step m t refl).1 l
+  no_item_fault m le (too_many l) = omega arith
 
   no_faults : {is : List Item} {ss : List Step} → Means names is ss → (count at : ℕ) (q : Refusal) → count + length ss ≤ 15 → Fault names count at is q → ⊥
-  no_faults means-none count at q le f = elim f [ ]
-  no_faults (means-item {i = i} {s = s} {ss = ss} m ms) count at q le (here f) = no_item-fault m (omega (arith, length-append (hidden i.separator) (s ∷ ss))) f
-  no_faults (means-item {i = i} {s = s} {ss = ss} m ms) count at q le (there f) =
+  no_faults means_none count at q le f = elim f [ ]
+  no_faults (means_item {i = i} {s = s} {ss = ss} m ms) count at q le (here f) = no_item_fault m (omega (arith, length-append (hidden i.separator) (s ∷ ss))) f
+  no_faults (means_item {i = i} {s = s} {ss = ss} m ms) count at q le (there f) =
       no_faults ms (count + step_count i) (at + length (item_text i)) q (omega (arith, length-append (hidden i.separator) (s ∷ ss))) f
 
   long_path : (ss : List Step) → AllKnown ss → IsPath (long_form names ss) (items_for ss)
   long_path [] k = root
   long_path (s ∷ ss) k = items (subst (λ l. IsItems l (items_for (s ∷ ss))) (text_same (s ∷ ss)) (derive_items (item_for s) (items_for ss) k.fine))
 
-  long-short : (ss : List Step) → AllKnown ss → length ss ≤ 15 → length (long_form names ss) ≤ 1024
-  long-short [] k le = omega arith
-  long-short (s ∷ ss) k le = omega (arith, k.short)
+  long_short : (ss : List Step) → AllKnown ss → length ss ≤ 15 → length (long_form names ss) ≤ 1024
+  long_short [] k le = omega arith
+  long_short (s ∷ ss) k le = omega (arith, k.short)
 
   back : (c : Chain) → first_unlisted names (steps_of c) ≡ None → Reads names (long_form names (steps_of c)) (Ok c)
   back c h =
       let k = all_known 0 (steps_of c) h in
-      accepted (long-short (steps_of c) k (few-steps c)) (long_path (steps_of c) k) (λ q f. no_faults k.means 0 0 q (omega (arith, few-steps c)) f) k.means
+      accepted (long_short (steps_of c) k (few_steps c)) (long_path (steps_of c) k) (λ q f. no_faults k.means 0 0 q (omega (arith, few_steps c)) f) k.means
 
-pub reads-back : ReadsBack
-reads-back names proper c h = back names proper c h
+pub reads_back : ReadsBack
+reads_back names proper c h = back names proper c h

@@ -17,24 +17,24 @@ use Rattle.grammar.specs.Texts.{separator_text, item_text}
 
 -- What an item means by a list of names. '//' hides a step before the written one, and without an axis word the axis is child.
 pub data MeansTest (names : List (List ℕ)) : Tested → Test → Type 0 where
-  means-name : {n : List ℕ} {k : ℕ} → number_of names n ≡ Some k → MeansTest names (Named n) (Name k)
-  means-star : MeansTest names Star AnyElement
-  means-text : MeansTest names Texts AnyText
-  means-node : MeansTest names Nodes AnyNode
+  means_name : {n : List ℕ} {k : ℕ} → number_of names n ≡ Some k → MeansTest names (Named n) (Name k)
+  means_star : MeansTest names Star AnyElement
+  means_text : MeansTest names Texts AnyText
+  means_node : MeansTest names Nodes AnyNode
 
 pub data MeansStep (names : List (List ℕ)) : Written → Step → Type 0 where
-  means-dot : MeansStep names Dot (record { axis = Itself; test = AnyNode })
-  means-dots : MeansStep names Dots (record { axis = Parent; test = AnyNode })
-  means-plain : {t : Tested} {u : Test} → MeansTest names t u → MeansStep names (Plain t) (record { axis = Child; test = u })
-  means-along : {w : List ℕ} {t : Tested} {a : Axis} {u : Test} → axis_of w ≡ Some a → MeansTest names t u → MeansStep names (Along w t) (record { axis = a; test = u })
+  means_dot : MeansStep names Dot (record { axis = Itself; test = AnyNode })
+  means_dots : MeansStep names Dots (record { axis = Parent; test = AnyNode })
+  means_plain : {t : Tested} {u : Test} → MeansTest names t u → MeansStep names (Plain t) (record { axis = Child; test = u })
+  means_along : {w : List ℕ} {t : Tested} {a : Axis} {u : Test} → axis_of w ≡ Some a → MeansTest names t u → MeansStep names (Along w t) (record { axis = a; test = u })
 
 abbrev pub hidden : Separator → List Step
 hidden Slash = []
 hidden Slashes = record { axis = DescendantOrSelf; test = AnyNode } ∷ []
 
 pub data Means (names : List (List ℕ)) : List Item → List Step → Type 0 where
-  means-none : Means names [] []
-  means-item : {i : Item} {is : List Item} {s : Step} {ss : List Step} → MeansStep names i.step s → Means names is ss → Means names (i ∷ is) (hidden i.separator ++ s ∷ ss)
+  means_none : Means names [] []
+  means_item : {i : Item} {is : List Item} {s : Step} {ss : List Step} → MeansStep names i.step s → Means names is ss → Means names (i ∷ is) (hidden i.separator ++ s ∷ ss)
 
 -- What is wrong with an item that begins at a place, where so many steps stand before it.
 abbrev pub step_count : Item → ℕ
@@ -50,7 +50,7 @@ pub data TestsName : Written → List ℕ → ℕ → Type 0 where
 
 pub data ItemFault (names : List (List ℕ)) (count at : ℕ) (i : Item) : Refusal → Type 0 where
   unknown_axis : {w : List ℕ} {t : Tested} → i.step ≡ Along w t → axis_of w ≡ None → ItemFault names count at i (refusal UnknownAxis (after_separator at i))
-  long-name : {n : List ℕ} {d : ℕ} → TestsName i.step n d → 32 < length n → ItemFault names count at i (refusal LongName (after_separator at i + d))
+  long_name : {n : List ℕ} {d : ℕ} → TestsName i.step n d → 32 < length n → ItemFault names count at i (refusal LongName (after_separator at i + d))
   unknown_name : {n : List ℕ} {d : ℕ} → TestsName i.step n d → number_of names n ≡ None → ItemFault names count at i (refusal UnknownName (after_separator at i + d))
   too_many : 15 < count + step_count i → ItemFault names count at i (refusal TooManySteps at)
 
@@ -65,7 +65,7 @@ NoLater a b = (a.place < b.place) ⊎ ((a.place ≡ b.place) × (ground_number a
 
 -- r is the fault of the items that is answered: the one at the smallest place, and there the one with the smallest number.
 pub record FirstFault (names : List (List ℕ)) (is : List Item) (r : Refusal) : Type 0 where
-  pub is-fault : Fault names 0 0 is r
+  pub is_fault : Fault names 0 0 is r
   pub first : (q : Refusal) → Fault names 0 0 is q → NoLater r q
 
 -- What reading a text answers.
