@@ -15,7 +15,7 @@ const NAMES: &[u8] =
 // The input is not longer.
 const INPUT_BYTES: u64 = 65536;
 
-#[derive(Drop)]
+#[derive(Debug, Drop)]
 enum Failure {
     Io(io::Error),
     NoMemory,

@@ -36,10 +36,10 @@ module _ (names : List (List ℕ)) (sofar : Result Chain Refusal) (chain : Chain
           ∙ sym (cond-false _ _ _ (le-ltb 15 (length (steps_of chain) + step_count i) (omega (arith, long))))
           ∙ on
 
-      pub bad-step : (o : Result Chain Refusal) (x : Refusal) → IsErrAnd o (λ y. y ≡ x) → Err x ≡ step_at names (at + k) i.step → chained o ≡ go_on names (chained sofar) at i
-      bad-step (Ok c) x b h = absurd b
-      bad-step (Err y) x b h = ap (λ z. Err z) b ∙ roomy (Err x) h
+      pub bad_step : (o : Result Chain Refusal) (x : Refusal) → IsErrAnd o (λ y. y ≡ x) → Err x ≡ step_at names (at + k) i.step → chained o ≡ go_on names (chained sofar) at i
+      bad_step (Ok c) x b h = absurd b
+      bad_step (Err y) x b h = ap (λ z. Err z) b ∙ roomy (Err x) h
 
-      pub good-step : (s : Step) (o : Result Chain Refusal) (r : Refusal) (v : Option Chain) → o ≡ ok_or v r → MatchOption v (length (steps_of mid) ≡ 15) (λ c. (length (steps_of mid) < 15) × (steps_of c ≡ steps_of mid ++ s ∷ [])) → Ok s ≡ step_at names (at + k) i.step → chained o ≡ go_on names (chained sofar) at i
-      good-step s o r None z b h = absurd (omega arith)
-      good-step s o r (Some c) z b h = ap chained z ∙ ap (λ l. Ok l) b.1 ∙ roomy (Ok s) h
+      pub good_step : (s : Step) (o : Result Chain Refusal) (r : Refusal) (v : Option Chain) → o ≡ ok_or v r → MatchOption v (length (steps_of mid) ≡ 15) (λ c. (length (steps_of mid) < 15) × (steps_of c ≡ steps_of mid ++ s ∷ [])) → Ok s ≡ step_at names (at + k) i.step → chained o ≡ go_on names (chained sofar) at i
+      good_step s o r None z b h = absurd (omega arith)
+      good_step s o r (Some c) z b h = ap chained z ∙ ap (λ l. Ok l) b.1 ∙ roomy (Ok s) h

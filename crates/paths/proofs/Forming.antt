@@ -12,7 +12,7 @@ use Rattle.chain.specs.Chains.{steps_of}
 use Rattle.names.specs.Lists.{Proper}
 use Rattle.grammar.specs.LongForm.{long_test, long_step, long_steps, long_form, unlisted, unlisted_from, first_unlisted, written_by, written, over_by, Writes}
 use Rattle.grammar.specs.Readings.{Reads}
-use Rattle.grammar.proofs.Writing.{reads-back}
+use Rattle.grammar.proofs.Writing.{reads_back}
 use Rattle.paths.specs.Forms.{StepPut, Composed}
 
 pub step_put : (names : List (List ℕ)) (s : Step) (at : ℕ) (word test f₀ t₁ t₂ t₃ t₄ : List ℕ)
@@ -84,5 +84,5 @@ module _ (names : List (List ℕ)) (c : Chain) (was : List ℕ) where
         record {
           answer = a;
           memory = o ∙ ap (λ r. over_by r (long_form names (steps_of c)) was) a;
-          back = subst (λ l. Reads names l (Ok c)) (sym (ap (take n) o ∙ take_at (long_form names (steps_of c)) (drop n was) n (sym long))) (reads-back names p c h.0);
+          back = subst (λ l. Reads names l (Ok c)) (sym (ap (take n) o ∙ take_at (long_form names (steps_of c)) (drop n was) n (sym long))) (reads_back names p c h.0);
         }

@@ -16,7 +16,7 @@ use Rattle.grammar.proofs.Yields.{items_snoc}
 use Rattle.grammar.proofs.Onward.{no_separator}
 use Rattle.grammar.proofs.Reports.{left}
 use Rattle.grammar.proofs.Judging.{judged_snoc}
-use Rattle.grammar.proofs.Reading.{reads-stuck, reads-items}
+use Rattle.grammar.proofs.Reading.{reads_stuck, reads_items}
 use Rattle.paths.specs.Cuts.{StepCut, StepStuck, SeparatorCut}
 
 pub record Sofar (names : List (List ℕ)) (text rest : List ℕ) (sofar : Result Chain Refusal) : Type 0 where
@@ -68,7 +68,7 @@ module _ {names : List (List ℕ)} {text rest : List ℕ} {sofar : Result Chain 
   whole (i ∷ is) p = refl
 
   pub all_read : length text ≤ 1024 → length rest ≡ 0 → 0 < length text → Reads names text sofar
-  all_read le z p = reads-items names text le h.items sofar (h.on ∙ ended rest z ∙ whole h.items (omega (arith, lengths))) h.is
+  all_read le z p = reads_items names text le h.items sofar (h.on ∙ ended rest z ∙ whole h.items (omega (arith, lengths))) h.is
     where
       ended : (r : List ℕ) → length r ≡ 0 → scan (Whole h.items) r ≡ scan (Whole h.items) []
       ended [] e = refl
@@ -89,8 +89,8 @@ pub nothing : (text : List ℕ) → length text ≡ 0 → scan begin text ≡ Er
 nothing [] e = refl
 nothing (b ∷ s) e = absurd (omega arith)
 
-pub stuck-inside : (text rest : List ℕ) → scan begin text ≡ Err rest → length rest ≤ length text
-stuck-inside text rest e = let l = left text rest e in omega (arith, ap length l.split, length-append l.front rest)
+pub stuck_inside : (text rest : List ℕ) → scan begin text ≡ Err rest → length rest ≤ length text
+stuck_inside text rest e = let l = left text rest e in omega (arith, ap length l.split, length-append l.front rest)
 
 pub refused_as : {names : List (List ℕ)} {text : List ℕ} {q : Refusal} (r : Refusal) → r ≡ q → Reads names text (Err q) → Reads names text (Err r)
 refused_as {names} {text} r e h = subst (λ (x : Refusal). Reads names text (Err x)) (sym e) h
@@ -100,4 +100,4 @@ reads_nothing names text z =
     let e = eqb-true (length text) 0 (sym z) in
     let none : length text - 0 ≡ 0 = omega arith in
     subst (λ (n : ℕ). Reads names text (Err (refusal NotPath n))) none
-    (reads-stuck names text (omega arith) [] (λ s. omega (arith, ap length s)) (nothing text e))
+    (reads_stuck names text (omega arith) [] (λ s. omega (arith, ap length s)) (nothing text e))
