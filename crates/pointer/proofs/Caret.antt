@@ -1,7 +1,7 @@
 -- The caret stands below the byte at the place, and the lines are short.
 use Rattle.std.proofs.Common.{◌≡◌, ℕ, ◌+◌, ◌-◌, ◌<◌, ◌≤◌, min, Bool, true, false, ltb, List, ◌++◌, length, get_or, take, drop, replicate, codes, ap, ◌∙◌, arith, length-append, length-drop, length-take, get_or-drop, get_or-take, get_or-append-add}
-use lib.ListN.{length-replicate, length-map, get_or-append}
-use Rattle.std.proofs.lemmas.List.{get_or-map}
+use Rattle.std.proofs.Math.ListN.{get_or-append}
+use Rattle.std.proofs.lemmas.List.{length-replicate, length-map, get_or-map}
 use Rattle.std.proofs.lemmas.Bool.Decides.{nat_tests}
 use Rattle.pointer.specs.Pointed.{column_of, columns, dots, start_of, column_at, text_line, CaretBelow, LinesFit}
 

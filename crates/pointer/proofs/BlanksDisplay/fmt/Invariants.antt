@@ -3,4 +3,4 @@ use Rattle.pointer.specs.Pointed.{blanks}
 use Rattle.pointer.proofs.BlanksDisplay.fmt.Given as goal
 
 abbrev pub invariant-loop-column : goal.invariant-loop-column
-invariant-loop-column g l = IsPlainFormatter l.initial.f → HasWritten g.W.Write.write_str_gives l.initial.f (blanks l.-column) l.f
+invariant-loop-column g l = IsPlainFormatter l.initial.f → HasWritten g.W.Write.write_str_gives l.initial.f (blanks l._column) l.f
