@@ -16,16 +16,23 @@ abbrev pub margin : ℕ → List ℕ
 margin zero = []
 margin (suc level) = margin level ++ codes "  "
 
--- the name that the list has of this number, else the number
-abbrev pub label : List (List ℕ) → ℕ → List ℕ
-label names number = unwrap_or (listed_name names number) (decimal number)
-
-abbrev pub shown_kind : List (List ℕ) → Kind → ℕ → List ℕ
-shown_kind names Element number = codes "element " ++ label names number
-shown_kind names Text number = codes "text"
+abbrev pub shown_kind : Kind → ℕ → List ℕ
+shown_kind Element name = codes "element " ++ decimal name
+shown_kind Text name = codes "text"
 
 abbrev pub shown_end : ℕ → List ℕ
 shown_end end = cond (end == open_mark) (codes "open") (codes "end " ++ decimal end)
 
-abbrev pub shown_line : List (List ℕ) → Line → List ℕ
-shown_line names l = margin l.level ++ (decimal l.node ++ (codes " " ++ (shown_kind names l.kind l.name ++ (codes " " ++ shown_end l.end))))
+abbrev pub shown_line : Line → List ℕ
+shown_line l = margin l.level ++ (decimal l.node ++ (codes " " ++ (shown_kind l.kind l.name ++ (codes " " ++ shown_end l.end))))
+
+-- the name that the list has of this number, else the number
+abbrev pub label : List (List ℕ) → ℕ → List ℕ
+label names number = unwrap_or (listed_name names number) (decimal number)
+
+abbrev pub shown_named_kind : List (List ℕ) → Kind → ℕ → List ℕ
+shown_named_kind names Element number = codes "element " ++ label names number
+shown_named_kind names Text number = codes "text"
+
+abbrev pub shown_named_line : List (List ℕ) → Line → List ℕ
+shown_named_line names l = margin l.level ++ (decimal l.node ++ (codes " " ++ (shown_named_kind names l.kind l.name ++ (codes " " ++ shown_end l.end))))

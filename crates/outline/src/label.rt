@@ -1,6 +1,6 @@
 // A name number as text.
-ghost use Rattle.std.proofs.Math.Utf8.{encodes};
 ghost use Rattle.std.specs.Prelude.{Some};
+ghost use Rattle.std.specs.Str.{encode_utf8_all};
 ghost use Rattle.names.specs.Listed.{listed};
 ghost use Rattle.outline.specs.Lines.{label};
 
@@ -34,7 +34,7 @@ impl fmt::Display for Label<'_> {
 struct Word<'a>(&'a [u8]);
 
 impl fmt::Display for Word<'_> {
-    ghost output = { λ w. Some (encodes w.0.now) };
+    ghost output = { λ w. Some (encode_utf8_all w.0.now) };
 
     fn fmt<W: fmt::Write>(&self, f: &mut fmt::Formatter<W>) -> fmt::Result {
         for byte in self.0 {

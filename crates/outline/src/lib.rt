@@ -3,7 +3,9 @@
 
 mod label;
 mod line;
+mod named_line;
 mod summary;
 
-pub use line::{Line, NamedLine};
+pub use line::Line;
+pub use named_line::NamedLine;
 pub use summary::Summary;

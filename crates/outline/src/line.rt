@@ -1,12 +1,9 @@
 // A node as a line of the outline.
 ghost use Rattle.std.specs.Prelude.{◌≡◌, Some};
 ghost use Rattle.document.specs.Document.{asked};
-ghost use Rattle.names.specs.Listed.{listed};
 ghost use Rattle.outline.specs.Lines.{line_of, margin, shown_kind, shown_end, shown_line};
 
-use super::label::Label;
 use document::{Kind, OPEN_MARK, Readable};
-use names::NameList;
 use refusal::Refusal;
 use std::fmt;
 
@@ -38,32 +35,24 @@ impl Line {
     }
 }
 
-// A line with the names that it is shown by.
-#[derive(Clone, Copy)]
-pub struct NamedLine<'a> {
-    pub line: Line,
-    pub names: NameList<'a>,
-}
-
-impl fmt::Display for NamedLine<'_> {
-    ghost output = { λ l. Some (shown_line (listed l.names) l.line) };
+impl fmt::Display for Line {
+    ghost output = { λ l. Some (shown_line l) };
 
     fn fmt<W: fmt::Write>(&self, f: &mut fmt::Formatter<W>) -> fmt::Result {
-        let margin = Margin(self.line.level);
-        let node = self.line.node;
+        let margin = Margin(self.level);
+        let node = self.node;
         let kind = KindWords {
-            kind: self.line.kind,
-            name: self.line.name,
-            names: self.names,
+            kind: self.kind,
+            name: self.name,
         };
-        let end = EndWords(self.line.end);
+        let end = EndWords(self.end);
         write!(f, "{margin}{node} {kind} {end}")
     }
 }
 
 // Two blanks a level.
 #[derive(Clone, Copy)]
-struct Margin(u8);
+pub(super) struct Margin(pub(super) u8);
 
 impl fmt::Display for Margin {
     ghost output = { λ m. Some (margin m.0) };
@@ -78,20 +67,16 @@ impl fmt::Display for Margin {
 
 // An element has a name, a text has none.
 #[derive(Clone, Copy)]
-struct KindWords<'a> {
+struct KindWords {
     kind: Kind,
     name: u16,
-    names: NameList<'a>,
 }
 
-impl fmt::Display for KindWords<'_> {
-    ghost output = { λ k. Some (shown_kind (listed k.names) k.kind k.name) };
+impl fmt::Display for KindWords {
+    ghost output = { λ k. Some (shown_kind k.kind k.name) };
 
     fn fmt<W: fmt::Write>(&self, f: &mut fmt::Formatter<W>) -> fmt::Result {
-        let name = Label {
-            number: self.name,
-            names: self.names,
-        };
+        let name = self.name;
         match self.kind {
             Kind::Element => write!(f, "element {name}"),
             Kind::Text => write!(f, "text"),
@@ -101,7 +86,7 @@ impl fmt::Display for KindWords<'_> {
 
 // The end number, if there is one.
 #[derive(Clone, Copy)]
-struct EndWords(u32);
+pub(super) struct EndWords(pub(super) u32);
 
 impl fmt::Display for EndWords {
     ghost output = { λ e. Some (shown_end e.0) };

@@ -1,5 +1,5 @@
 use Rattle.std.proofs.Common.{take}
-use lib.Utf8.{encodes}
+use Rattle.std.proofs.Math.Utf8.{encodes}
 use Rattle.std.specs.Fmt.{IsPlainFormatter, HasWritten}
 use Rattle.outline.proofs.label.WordDisplay.fmt.Given as goal
 

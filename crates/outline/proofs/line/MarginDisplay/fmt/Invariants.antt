@@ -3,4 +3,4 @@ use Rattle.outline.specs.Lines.{margin}
 use Rattle.outline.proofs.line.MarginDisplay.fmt.Given as goal
 
 abbrev pub invariant-loop-level : goal.invariant-loop-level
-invariant-loop-level g l = IsPlainFormatter l.initial.f → HasWritten g.W.Write.write_str_gives l.initial.f (margin l.-level) l.f
+invariant-loop-level g l = IsPlainFormatter l.initial.f → HasWritten g.W.Write.write_str_gives l.initial.f (margin l._level) l.f
