@@ -9,6 +9,7 @@ mod show;
 use failure::Failure;
 use names::NameList;
 use std::env;
+use std::process::ExitCode;
 
 const USAGE: &str = "batch: shows the documents of billing batches, and what their paths say
 
@@ -24,15 +25,13 @@ A refusal is one line on standard error, 'refused: NUMBER LAYER PLACE: GROUND',
 with the refused text and a caret below it where there is one. The exit status
 is then 1.";
 
-// The program ends with status 1; why is on standard error.
-struct Reported;
-
-fn main(rt: HostRuntime) -> Result<(), Reported> {
+// Where the program ends with status 1, why is on standard error.
+fn main(rt: HostRuntime) -> ExitCode {
     match run(&rt) {
-        Ok(()) => Ok(()),
+        Ok(()) => ExitCode::SUCCESS,
         Err(failure) => {
             let _ = eprintln!(rt; "{failure}");
-            Err(Reported)
+            ExitCode::FAILURE
         }
     }
 }
