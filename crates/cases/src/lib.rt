@@ -5,7 +5,7 @@
 mod feeds;
 mod lending;
 #[cfg(test)]
-mod paths;
+mod path_texts;
 #[cfg(test)]
 mod tables;
 #[cfg(test)]

@@ -5,6 +5,7 @@ use outline::{Line, NamedLine, Summary};
 use pointer::Pointer;
 use record_table::{Record, RecordTable};
 use refusal::Ground;
+use std::fmt;
 use std::process::Abort;
 use std::test::Fail;
 
@@ -109,37 +110,57 @@ fn outline(rt: HostRuntime) -> Result<(), Fail> {
     let text = format!(in rt.alloc(); "{sentence}")?;
     assert_eq!(rt; text.as_str(), "Read 1 record: 1 node, 1 element open.");
     table.text()?;
-    table.open(2)?;
-    let mut names = NameList::empty();
-    shows(&rt, Line::of(&table, 2)?, names, "  2 element 2 open")?;
-    names.load(b"book\nchapter\n")?;
-    shows(&rt, Line::of(&table, 0)?, names, "0 element 65534 open")?;
-    shows(&rt, Line::of(&table, 1)?, names, "  1 text end 0")?;
-    shows(&rt, Line::of(&table, 2)?, names, "  2 element chapter open")
+    let line = Line::of(&table, 0)?;
+    let text = format!(in rt.alloc(); "{line}")?;
+    assert_eq!(rt; text.as_str(), "0 element 65534 open");
+    let line = Line::of(&table, 1)?;
+    let text = format!(in rt.alloc(); "{line}")?;
+    assert_eq!(rt; text.as_str(), "  1 text end 0");
+    Ok(())
 }
 
+#[test]
+fn named_lines(rt: HostRuntime) -> Result<(), Fail> {
+    let mut records = [Record::BLANK; 3];
+    let mut table = RecordTable::new(&mut records);
+    table.open(65534)?;
+    table.text()?;
+    table.open(2)?;
+    let mut names = NameList::empty();
+    named(&rt, Line::of(&table, 2)?, names, "  2 element 2 open")?;
+    names.load(b"book\nchapter\n")?;
+    named(&rt, Line::of(&table, 0)?, names, "0 element 65534 open")?;
+    named(&rt, Line::of(&table, 1)?, names, "  1 text end 0")?;
+    named(&rt, Line::of(&table, 2)?, names, "  2 element chapter open")
+}
+
+// What is formatted is this text.
 fn shows(
     rt: &(impl Abort + AllocGlobal),
-    line: Line,
-    names: NameList,
+    shown: impl fmt::Display + Drop,
     expected: &str,
 ) -> Result<(), Fail> {
-    let line = NamedLine { line, names };
-    let text = format!(in rt.alloc(); "{line}")?;
+    let text = format!(in rt.alloc(); "{shown}")?;
     assert_eq!(rt; text.as_str(), expected);
     Ok(())
+}
+
+fn named(
+    rt: &(impl Abort + AllocGlobal),
+    line: Line,
+    names: NameList<'_>,
+    expected: &str,
+) -> Result<(), Fail> {
+    shows(rt, NamedLine { line, names }, expected)
 }
 
 fn pointed(
     rt: &(impl Abort + AllocGlobal),
     text: &[u8],
     place: usize,
-    lines: &str,
+    expected: &str,
 ) -> Result<(), Fail> {
-    let pointer = Pointer { text, place };
-    let shown = format!(in rt.alloc(); "{pointer}")?;
-    assert_eq!(rt; shown.as_str(), lines);
-    Ok(())
+    shows(rt, Pointer { text, place }, expected)
 }
 
 #[test]
