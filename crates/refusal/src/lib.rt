@@ -5,6 +5,7 @@ ghost use Rattle.std.specs.Prelude.{◌≡◌};
 ghost use Rattle.refusal.specs.Refusals.{number_of, layer_of, refusal};
 
 use std::fmt;
+use thiserror::Error;
 
 // The parts of the system that refuse.
 #[derive(Clone, Copy, PartialEq, Eq, Debug)]
@@ -18,33 +19,54 @@ pub enum Layer {
     Feed,
 }
 
-// The grounds in the order of their numbers, from 1.
-#[derive(Clone, Copy, PartialEq, Eq, Debug)]
+// The grounds in the order of their numbers, each with its words.
+#[derive(Clone, Copy, PartialEq, Eq, Debug, Error)]
 pub enum Ground {
-    BadCapacity,
+    #[error("the document has memory for no node, or for more than 4,096")]
+    BadCapacity = 1,
+    #[error("the document has ended: node 0 is closed")]
     Ended,
+    #[error("the document has no node yet, and only an open can begin it")]
     NotBegun,
+    #[error("an element's name number is 1 to 65,534")]
     BadName,
+    #[error("the node would lie deeper than level 63")]
     TooDeep,
+    #[error("the document has no room for another node")]
     Full,
+    #[error("the close does not name the innermost open element")]
     OtherName,
+    #[error("the document has no node of this number")]
     NoNode,
+    #[error("the list's entry is not above the one before it, or is no node")]
     BadEntry,
+    #[error("the memory given has too few places or bytes")]
     TooSmall,
+    #[error("the path's text is over 1,024 bytes")]
     LongText,
+    #[error("the text is not a path from here on")]
     NotPath,
+    #[error("the axis word is unknown")]
     UnknownAxis,
+    #[error("the name is over 32 bytes")]
     LongName,
+    #[error("the name is not in the name list")]
     UnknownName,
+    #[error("the path has more than fifteen steps")]
     TooManySteps,
+    #[error("the line of the name list is not a new name of 1 to 32 bytes and a line end, or is one too many")]
     BadLine,
+    #[error("the bytes are not a saved document")]
     BadTable,
+    #[error("the run was set up over a document that had nodes")]
     NotEmpty,
+    #[error("the feed record is not an open, a text without a name, or a close, in four bytes")]
     BadRecord,
 }
 
 // A refusal carries its ground and its place, which counts from 0.
-#[derive(Clone, Copy, PartialEq, Eq, Debug)]
+#[derive(Clone, Copy, PartialEq, Eq, Debug, Error)]
+#[error("{number} {layer} {place}: {ground}", number = .ground.number(), layer = .ground.layer())]
 pub struct Refusal {
     pub ground: Ground,
     pub place: usize,
@@ -54,7 +76,7 @@ impl Ground {
     pub fn number(self) -> u8
         ensures { result ≡ number_of self }
     {
-        self as u8 + 1
+        self as u8
     }
 
     pub fn layer(self) -> Layer
@@ -92,35 +114,9 @@ impl Ground {
             place,
         }
     }
-
-    fn words(self) -> &'static str {
-        match self {
-            Ground::BadCapacity => "the document has memory for no node, or for more than 4,096",
-            Ground::Ended => "the document has ended: node 0 is closed",
-            Ground::NotBegun => "the document has no node yet, and only an open can begin it",
-            Ground::BadName => "an element's name number is 1 to 65,534",
-            Ground::TooDeep => "the node would lie deeper than level 63",
-            Ground::Full => "the document has no room for another node",
-            Ground::OtherName => "the close does not name the innermost open element",
-            Ground::NoNode => "the document has no node of this number",
-            Ground::BadEntry => "the list's entry is not above the one before it, or is no node",
-            Ground::TooSmall => "the memory given has too few places or bytes",
-            Ground::LongText => "the path's text is over 1,024 bytes",
-            Ground::NotPath => "the text is not a path from here on",
-            Ground::UnknownAxis => "the axis word is unknown",
-            Ground::LongName => "the name is over 32 bytes",
-            Ground::UnknownName => "the name is not in the name list",
-            Ground::TooManySteps => "the path has more than fifteen steps",
-            Ground::BadLine =>
-                "the line of the name list is not a new name of 1 to 32 bytes and a line end, or is one too many",
-            Ground::BadTable => "the bytes are not a saved document",
-            Ground::NotEmpty => "the run was set up over a document that had nodes",
-            Ground::BadRecord =>
-                "the feed record is not an open, a text without a name, or a close, in four bytes",
-        }
-    }
 }
 
+// By hand: a layer is no error, and a derive with a message for each variant is no plainer than this match.
 impl fmt::Display for Layer {
     fn fmt<W: fmt::Write>(&self, f: &mut fmt::Formatter<W>) -> fmt::Result {
         f.write_str(match self {
@@ -132,23 +128,5 @@ impl fmt::Display for Layer {
             Layer::Run => "run",
             Layer::Feed => "feed",
         })
-    }
-}
-
-// The ground in words.
-impl fmt::Display for Ground {
-    fn fmt<W: fmt::Write>(&self, f: &mut fmt::Formatter<W>) -> fmt::Result {
-        f.write_str(self.words())
-    }
-}
-
-// Number, layer and place, and the ground in words.
-impl fmt::Display for Refusal {
-    fn fmt<W: fmt::Write>(&self, f: &mut fmt::Formatter<W>) -> fmt::Result {
-        let ground = self.ground;
-        let place = self.place;
-        let number = ground.number();
-        let layer = ground.layer();
-        write!(f, "{number} {layer} {place}: {ground}")
     }
 }
