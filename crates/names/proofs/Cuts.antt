@@ -1,7 +1,8 @@
 -- How a text is cut into lines.
-use Rattle.std.proofs.Common.{◌≡◌, ℕ, ◌+◌, ◌-◌, ◌<◌, true, ◌&&◌, ◌||◌, eqb, List, [], ◌∷◌, ◌++◌, length, get_or, take, drop, sym, refl, ap, ◌∙◌, subst, inl, inr, arith, length-append, take-append-drop}
-use Rattle.std.specs.List.{AllByRecursion}
-use Rattle.std.proofs.lemmas.List.{append_assoc, drop_more, take_rest}
+use Rattle.std.proofs.Common.{◌≡◌, ◌≢◌, ℕ, ◌+◌, ◌-◌, ◌<◌, true, ◌&&◌, ◌||◌, eqb, List, [], ◌∷◌, ◌++◌, length, get_or, take, drop, sym, refl, ap, ◌∙◌, subst, inl, inr, arith, take-append-drop}
+use Rattle.std.specs.List.{AllByRecursion, AllWithin, HoldsAt}
+use Rattle.std.proofs.ByRecursion.{all_from_every}
+use Rattle.std.proofs.lemmas.List.{append_assoc, drop_more, take_rest, length-take, get_or-take}
 use Rattle.std.proofs.lemmas.Bool.{cond-true, cond-false, ne_eqb, eq-eqb, and_parts, cases_eq, false≢true}
 use Rattle.names.specs.Classes.{class_of, begins, goes}
 use Rattle.names.specs.Names.{is_name, all_go}
@@ -22,8 +23,14 @@ no_line (x ∷ l) h = cond-false _ _ _ (ne_eqb x 10 h.0) ∙ ap (onto x) (no_lin
 pub first_line : {s : List ℕ} (l r : List ℕ) → Plain l → s ≡ l ++ 10 ∷ r → lines s ≡ l ∷ lines r
 first_line l r h e = ap lines e ∙ one_line l r h
 
-pub shorter : (s l r : List ℕ) → s ≡ l ++ 10 ∷ r → length r < length s
-shorter s l r e = omega (arith, ap length e, length-append l (10 ∷ r))
+-- the first byte 10 ends the first line
+pub cut_first : (s : List ℕ) (i : ℕ) → i < length s → HoldsAt (λ b. b ≡ 10) s i → AllWithin (λ b. b ≢ 10) s 0 i → lines s ≡ take i s ∷ lines (drop (i + 1) s)
+cut_first s i lt here before =
+    let plain = all_from_every (λ b. b ≢ 10) (take i s) (λ k d lo hi. let lt' : k < i = omega (arith, length-take i s) in rw (get_or-take i s k d lt') (before k d lo lt')) in
+    first_line (take i s) (drop (i + 1) s) plain (cut_at s i lt (here 0))
+
+pub uncut : (s : List ℕ) → AllWithin (λ b. b ≢ 10) s 0 (length s) → lines s ≡ []
+uncut s none = no_line s (all_from_every (λ b. b ≢ 10) s none)
 
 -- the text of names, and what follows it
 pub ended_append : (xs ys : List (List ℕ)) → ended (xs ++ ys) ≡ ended xs ++ ended ys

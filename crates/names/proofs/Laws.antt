@@ -1,30 +1,16 @@
 -- A text with no bad line is the text of names that a list may hold, and the other way round; and what a bad line is.
-use Rattle.std.proofs.Common.{◌≡◌, ℕ, zero, suc, ◌+◌, ◌<◌, ◌≤◌, true, false, not, ltb, leb, List, [], ◌∷◌, ◌++◌, length, get_or, is_some, Some, None, Option, sym, refl, ap, ◌∙◌, subst, inl, inr, le_of_suc-le-suc, not-suc-le-zero, arith}
-use Rattle.std.specs.List.{AllByRecursion}
+use Rattle.std.proofs.Common.{◌≡◌, ℕ, suc, ◌+◌, ◌<◌, ◌≤◌, true, false, not, ltb, leb, List, [], ◌∷◌, ◌++◌, length, get_or, Some, None, Option, sym, refl, ap, ◌∙◌, subst, inl, inr, not-suc-le-zero, arith}
 use Rattle.std.specs.Str.{bytes_eq}
 use Rattle.std.proofs.lemmas.List.{append-nil, nil_from_length, append_assoc, length-append, length_push, get_or_append_left, get_or_at, get_or_push}
-use Rattle.std.proofs.ByRecursion.{All-get_or, All-push}
+use Rattle.std.proofs.ByRecursion.{All-get_or, All-push, All-weaker}
+use Rattle.std.proofs.lemmas.List.Recursion.{or_at, or_from_places}
 use Rattle.std.proofs.lemmas.Slice.Eq.{bytes_eq-Decides}
-use Rattle.std.proofs.lemmas.Bool.{cond-true, cond-false, cases_Bool, cases_lt, and_from, and_parts, or_cases, or_left, or_right, lt-ltb, le-ltb, le-leb, ltb-true, leb-true, false≢true, true≢false}
+use Rattle.std.proofs.lemmas.Bool.{cond-true, cond-false, cases_Bool, cases_lt, and_from, and_parts, lt-ltb, le-ltb, le-leb, ltb-true, leb-true, false≢true}
 use Rattle.names.specs.Names.{is_name, member}
 use Rattle.names.specs.Lists.{Plain, lines, good, bad_from, first_bad, ended, Proper, IsBadLine, ListsExact}
 use Rattle.names.specs.Listed.{listed}
 use Rattle.names.specs.declared.list.NameList.{NameList}
 use Rattle.names.proofs.Cuts.{Cut, Cuts, cuts, first_line, ended_append, ended_lines, plain_name}
-
--- the place of a member
-member_at : (x : List ℕ) (ys : List (List ℕ)) → member x ys ≡ true → (k : ℕ) × (k < length ys) × (get_or ys k [] ≡ x)
-member_at x [] h = absurd (false≢true h)
-member_at x (y ∷ ys) h =
-    elim (or_cases (bytes_eq y x) (member x ys) h) [
-      | inl e ↦ (0, omega arith, (bytes_eq-Decides y x).0 e)
-      | inr e ↦ let r = member_at x ys e in (suc r.0, omega arith, r.2)
-    ]
-
-member_from : (x : List ℕ) (ys : List (List ℕ)) (k : ℕ) → k < length ys → get_or ys k [] ≡ x → member x ys ≡ true
-member_from x [] k lt e = absurd (not-suc-le-zero lt)
-member_from x (y ∷ ys) zero lt e = or_left (bytes_eq y x) (member x ys) ((bytes_eq-Decides y x).1 e)
-member_from x (y ∷ ys) (suc k) lt e = or_right (bytes_eq y x) (member x ys) (member_from x ys k (le_of_suc-le-suc lt) e)
 
 pub none_proper : Proper []
 none_proper = record { few = omega arith; named = tt; once = λ i j hi hj e. absurd (not-suc-le-zero hi) }
@@ -44,7 +30,7 @@ parts seen l g =
       few = ltb-true (length seen) 1024 p.0;
       name = q.0;
       short = leb-true (length l) 32 r.0;
-      new = λ k lt e. false≢true (sym (ap not (member_from l seen k lt e)) ∙ r.1);
+      new = λ k lt e. false≢true (sym (ap not (or_at (member l) (λ x. bytes_eq x l) refl (λ _ _. refl) seen k [] lt ((bytes_eq-Decides _ l).1 e))) ∙ r.1);
     }
 
 -- a good line makes a longer list
@@ -79,13 +65,13 @@ good_of seen l ls p =
     let lt : length seen < length (seen ++ l ∷ ls) = omega arith in
     let here : get_or (seen ++ l ∷ ls) (length seen) [] ≡ l = get_or_at seen l ls [] (length seen) refl in
     let ok : (is_name l ≡ true) × (length l ≤ 32) = subst (λ (n : List ℕ). (is_name n ≡ true) × (length n ≤ 32)) here (All-get_or (λ n. (is_name n ≡ true) × (length n ≤ 32)) (seen ++ l ∷ ls) (length seen) [] lt p.named) in
-    let fresh : not (member l seen) ≡ true = elim (cases_Bool (member l seen)) [
-      | inl m ↦
-          let k = member_at l seen m in
-          let same = p.once k.0 (length seen) (omega arith) lt (get_or_append_left seen (l ∷ ls) [] k.0 k.1 ∙ k.2 ∙ sym here) in
+    let other : (k : ℕ) → k < length seen → bytes_eq (get_or seen k []) l ≡ false = λ k lt'. elim (cases_Bool (bytes_eq (get_or seen k []) l)) [
+      | inl e ↦
+          let same = p.once k (length seen) (omega arith) lt (get_or_append_left seen (l ∷ ls) [] k lt' ∙ (bytes_eq-Decides _ l).0 e ∙ sym here) in
           absurd (omega arith)
-      | inr m ↦ ap not m
+      | inr e ↦ e
     ] in
+    let fresh : not (member l seen) ≡ true = ap not (or_from_places (member l) (λ x. bytes_eq x l) refl (λ _ _. refl) seen [] other) in
     and_from _ _ (lt-ltb (length seen) 1024 (omega (arith, p.few))) (and_from _ _ ok.0 (and_from _ _ (le-leb (length l) 32 ok.1) fresh))
 
 pub ended_push : (seen : List (List ℕ)) (l : List ℕ) → length (ended (seen ++ l ∷ [])) ≡ length (ended seen) + (length l + 1)
@@ -156,24 +142,12 @@ text_of text e = let j : Judged text (lines text) None = subst (Judged text (lin
 pub bad_of : (text : List ℕ) (p : ℕ) → first_bad text ≡ Some p → IsBadLine text p
 bad_of text p e = subst (Judged text (lines text)) e (judged text)
 
-none_from : (o : Option ℕ) → is_some o ≡ false → o ≡ None
-none_from None e = refl
-none_from (Some x) e = absurd (true≢false e)
-
--- what a name list carries in its type
-pub listed_good : (list : NameList) → first_bad list.bytes.now ≡ None
-listed_good list = none_from (first_bad list.bytes.now) list.good
-
 pub listed_proper : (list : NameList) → Proper (listed list)
-listed_proper list = proper_of list.bytes.now (listed_good list)
+listed_proper list = proper_of list.bytes.now list.good
 
 -- the other way round
-pub plain_names : (names : List (List ℕ)) → AllByRecursion (λ n. (is_name n ≡ true) × (length n ≤ 32)) names → AllByRecursion Plain names
-plain_names [] h = tt
-plain_names (n ∷ ns) h = (plain_name n h.0.0, plain_names ns h.1)
-
 pub lines_of : (names : List (List ℕ)) → Proper names → lines (ended names) ≡ names
-lines_of names p = ap lines (sym (append-nil (ended names))) ∙ ended_lines names [] (plain_names names p.named) ∙ append-nil names
+lines_of names p = ap lines (sym (append-nil (ended names))) ∙ ended_lines names [] (All-weaker (λ n. (is_name n ≡ true) × (length n ≤ 32)) Plain (λ n h. plain_name n h.0) names p.named) ∙ append-nil names
 
 none_bad : (names seen ls : List (List ℕ)) → names ≡ seen ++ ls → Proper names → bad_from (length (ended names)) seen (length (ended seen)) ls ≡ None
 none_bad names seen [] e p = cond-false _ _ _ (le-ltb (length (ended seen)) (length (ended names)) (omega (arith, ap (λ ns. length (ended ns)) (e ∙ append-nil seen))))

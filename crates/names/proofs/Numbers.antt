@@ -1,24 +1,11 @@
--- A name's number and a number's name, over the lines of a text and in any list.
-use Rattle.std.proofs.Common.{◌≡◌, ℕ, zero, suc, ◌+◌, ◌-◌, ◌<◌, ◌≤◌, Bool, cond, ◌&&◌, ◌||◌, ltb, leb, List, [], ◌∷◌, ◌++◌, length, get_or, Some, None, Decides, Option, sym, refl, ap, ◌∙◌, subst, inl, inr, arith}
+-- A name's number and a number's name.
+use Rattle.std.proofs.Common.{◌≡◌, ◌≢◌, ℕ, zero, suc, ◌+◌, ◌-◌, ◌<◌, ◌≤◌, ◌&&◌, ltb, leb, List, [], ◌∷◌, length, get_or, Some, None, Option, sym, refl, ap, ◌∙◌, subst, inl, inr, arith}
 use Rattle.std.specs.Str.{bytes_eq}
-use Rattle.std.proofs.lemmas.List.{append-nil, append_assoc, length-append, length_push, get_or_at}
+use Rattle.std.specs.List.{HoldsAt, AllWithin}
 use Rattle.std.proofs.lemmas.Slice.Eq.{bytes_eq-Decides}
-use Rattle.std.proofs.lemmas.Bool.{cond-true, cond-false, cases_Bool, cases_lt, and_from, and_left, and_right, and_parts, lt-ltb, le-ltb, le-leb, lt-leb, ltb-true, leb-true}
-use Rattle.std.proofs.lemmas.Bool.Decides.{same_from_decides, not_from_Decides}
-use Rattle.names.specs.Names.{member}
-use Rattle.names.specs.Lists.{Plain, lines, number_from, number_of, name_of, Proper, NumbersAre}
-use Rattle.names.proofs.Cuts.{first_line, no_line}
-
--- one line more is looked at
-module _ (word : List ℕ) {s : List ℕ} (l r : List ℕ) (p : Plain l) (e : s ≡ l ++ 10 ∷ r) (b : Bool) (d : Decides b (l ≡ word)) where
-  is : bytes_eq l word ≡ b
-  is = same_from_decides (bytes_eq l word) b (bytes_eq-Decides l word) d
-
-  pub member_first : member word (lines s) ≡ (b || member word (lines r))
-  member_first = ap (member word) (first_line l r p e) ∙ ap (λ x. x || member word (lines r)) is
-
-  pub number_first : (k : ℕ) → number_from k (lines s) word ≡ cond b (Some k) (number_from (k + 1) (lines r) word)
-  number_first k = ap (λ ls. number_from k ls word) (first_line l r p e) ∙ ap (λ x. cond x (Some k) (number_from (k + 1) (lines r) word)) is
+use Rattle.std.proofs.lemmas.Bool.{cond-true, cond-false, cases_Bool, and_from, and_parts, lt-ltb, le-leb, ltb-true, leb-true}
+use Rattle.std.proofs.lemmas.Bool.Decides.{not_from_Decides}
+use Rattle.names.specs.Lists.{number_from, number_of, name_of, Proper, NumbersAre}
 
 -- where a name is found, or that it is nowhere
 abbrev Found : ℕ → List (List ℕ) → List ℕ → Option ℕ → Type 0
@@ -72,44 +59,16 @@ number_is names p n k h (Some m) f =
 pub number_of_name : (names : List (List ℕ)) → Proper names → (n : List ℕ) (k : ℕ) → name_of names k ≡ Some n → number_of names n ≡ Some k
 number_of_name names p n k e = number_is names p n k (named_parts names k n e) (number_of names n) (found 1 names n)
 
+-- what a search by place says of the number
+pub number_at : (names : List (List ℕ)) → Proper names → (n : List ℕ) (i : ℕ) → i < length names → HoldsAt (λ l. l ≡ n) names i → Some (i + 1) ≡ number_of names n
+number_at names p n i lt here = sym (number_of_name names p n (i + 1) (named names (i + 1) (omega arith) (omega arith) ∙ ap Some (ap (λ j. get_or names j []) (omega arith) ∙ here [])))
+
+none_found : (names : List (List ℕ)) (n : List ℕ) → AllWithin (λ l. l ≢ n) names 0 (length names) → (o : Option ℕ) → Found 1 names n o → None ≡ o
+none_found names n none None f = refl
+none_found names n none (Some m) f = absurd (none f.0 [] (omega arith) f.1 f.3)
+
+pub number_nowhere : (names : List (List ℕ)) (n : List ℕ) → AllWithin (λ l. l ≢ n) names 0 (length names) → None ≡ number_of names n
+number_nowhere names n none = none_found names n none (number_of names n) (found 1 names n)
+
 pub numbers_are : NumbersAre
 numbers_are names p n k = (name_of_number names n k, number_of_name names p n k)
-
--- A walk from the first line on: the number of the line that comes next, and that no line before it had the number asked for.
-pub record Walk (text rest : List ℕ) (at number : ℕ) : Type 0 where
-  pub seen : List (List ℕ)
-  pub split : lines text ≡ seen ++ lines rest
-  pub counted : at ≡ length seen + 1
-  pub passed : number < at → number ≡ 0
-
-pub walk_start : (text : List ℕ) (number : ℕ) → Walk text text 1 number
-walk_start text number = record { seen = []; split = refl; counted = omega arith; passed = λ lt. omega arith }
-
-module _ {text rest : List ℕ} {at number : ℕ} (w : Walk text rest at number) where
-  module _ (l r : List ℕ) (p : Plain l) (e : rest ≡ l ++ 10 ∷ r) where
-    next : lines text ≡ w.seen ++ l ∷ lines r
-    next = w.split ∙ ap (λ ls. w.seen ++ ls) (first_line l r p e)
-
-    pub walk_within : at ≤ length (lines text)
-    walk_within = omega (arith, ap length next, length-append w.seen (l ∷ lines r), w.counted)
-
-    pub walk_more : (at ≡ number → ⊥) → Walk text r (at + 1) number
-    walk_more other = record {
-      seen = w.seen ++ l ∷ [];
-      split = next ∙ sym (append_assoc w.seen (l ∷ []) (lines r));
-      counted = omega (arith, length_push w.seen l, w.counted);
-      passed = λ lt. w.passed (omega arith);
-    }
-
-    pub walk_here : at ≡ number → name_of (lines text) number ≡ Some l
-    walk_here is =
-        named (lines text) number (omega (arith, w.counted)) (omega (arith, walk_within))
-        ∙ ap Some (ap (λ ls. get_or ls (number - 1) []) next ∙ get_or_at w.seen l (lines r) [] (number - 1) (omega (arith, w.counted)))
-
-  pub walk_end : Plain rest → name_of (lines text) number ≡ None
-  walk_end p =
-      let all = w.split ∙ ap (λ ls. w.seen ++ ls) (no_line rest p) ∙ append-nil w.seen in
-      elim (cases_lt number at) [
-        | inl lt ↦ cond-false _ _ _ (and_left _ _ (le-ltb 0 number (omega (arith, w.passed lt))))
-        | inr ge ↦ cond-false _ _ _ (and_right (ltb 0 number) _ (lt-leb number (length (lines text)) (omega (arith, ap length all, w.counted))))
-      ]

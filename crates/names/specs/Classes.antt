@@ -1,5 +1,7 @@
 -- The class of a byte: 1 begins a name, 2 only continues one, 3 is one of / * : ( ), 0 the rest.
 use Rattle.std.specs.Prelude.{ℕ, Bool, cond, ◌&&◌, ◌||◌, ◌==◌, nat_le}
+use Rattle.names.specs.declared.classes.ByteClass.{ByteClass}
+use Rattle.names.specs.declared.classes.ByteClass.TheVariants.{Other, Begins, Continues, Mark}
 
 abbrev pub within : ℕ → ℕ → ℕ → Bool
 within a z b = nat_le a b && nat_le b z
@@ -17,3 +19,10 @@ begins b = class_of b == 1
 
 abbrev pub goes : ℕ → Bool
 goes b = begins b || class_of b == 2
+
+-- a class by its number
+abbrev pub code_of : ByteClass → ℕ
+code_of Other = 0
+code_of Begins = 1
+code_of Continues = 2
+code_of Mark = 3

@@ -6,7 +6,7 @@ mod lines;
 mod list;
 mod theorems;
 
-pub use classes::class;
+pub use classes::{ByteClass, begins_name, class, continues_name};
 pub use lines::MAX_NAME_BYTES;
 pub use list::NameList;
 pub use theorems::names_stand;

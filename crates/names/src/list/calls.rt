@@ -1,30 +1,26 @@
 // A name list by its text, its names by number, and their numbers.
-ghost use Rattle.std.specs.Prelude.{◌≡◌, false, [], length, is_ok, Some, None, MatchOption, MatchResult};
+ghost use Rattle.std.specs.Prelude.{◌≡◌, [], length, Some, None, MatchOption, MatchResult};
 ghost use Rattle.names.specs.Lists.{number_of, name_of};
 ghost use Rattle.names.specs.Listed.{listed, ListOf, RefusedAt};
 
 use super::NameList;
-use crate::lines::{first_bad, split_line};
+use crate::lines::{Lines, first_bad};
 use refusal::{Ground, Refusal};
 
 impl<'a> NameList<'a> {
-    // A list of no names, to be loaded; the checker does not follow a list and the fact that it carries into a `Result`.
+    // A list of no names.
     pub fn empty() -> NameList<'a>
         ensures { listed result ≡ [] }
     {
         NameList { bytes: &[] }
     }
 
-    // Makes this the list of a text; or it stays as it was, and the refusal has the place of the first bad line.
-    pub fn load(&mut self, bytes: &'a [u8]) -> Result<(), Refusal>
-        ensures answer { MatchResult result (λ _. ListOf bytes.now (listed self.new)) (λ e. RefusedAt bytes.now e) }
-        ensures stays { is_ok result ≡ false → listed self.new ≡ listed self.old }
+    // The list of a text; or the refusal has the place of the first bad line.
+    pub fn new(bytes: &'a [u8]) -> Result<NameList<'a>, Refusal>
+        ensures { MatchResult result (λ names. ListOf bytes.now (listed names)) (λ e. RefusedAt bytes.now e) }
     {
         match first_bad(bytes) {
-            None => {
-                *self = NameList { bytes };
-                Ok(())
-            }
+            None => Ok(NameList { bytes }),
             Some(place) => Err(Ground::BadLine.at(place)),
         }
     }
@@ -33,44 +29,22 @@ impl<'a> NameList<'a> {
     pub fn len(&self) -> usize
         ensures { result ≡ length (listed self.now) }
     {
-        let mut count: usize = 0;
-        let mut rest = self.bytes;
-        while let Some((_, after)) = split_line(rest) {
-            rest = after;
-            count += 1;
-        }
-        count
+        Lines(self.bytes).count()
     }
 
-    // The number of a name; the first name's is 1.
+    // The number of a name; the first name's is 1, and no list has more than 1,024.
     pub fn number(&self, word: &[u8]) -> Option<u16>
         ensures { result ≡ number_of (listed self.now) word.now }
     {
-        let mut at: u16 = 1;
-        let mut rest = self.bytes;
-        while let Some((line, after)) = split_line(rest) {
-            if line == word {
-                return Some(at);
-            }
-            rest = after;
-            at += 1;
-        }
-        None
+        let index = Lines(self.bytes).position(|line| line == word)?;
+        Some(index as u16 + 1)
     }
 
     // The name of a number.
     pub fn name(&self, number: u16) -> Option<&'a [u8]>
         ensures { MatchOption result (name_of (listed self.now) number ≡ None) (λ n. name_of (listed self.now) number ≡ Some n.now) }
     {
-        let mut at: u16 = 1;
-        let mut rest = self.bytes;
-        while let Some((line, after)) = split_line(rest) {
-            if at == number {
-                return Some(line);
-            }
-            rest = after;
-            at += 1;
-        }
-        None
+        let index = number.checked_sub(1)?;
+        Lines(self.bytes).nth(usize::from(index))
     }
 }

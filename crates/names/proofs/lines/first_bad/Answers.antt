@@ -1,47 +1,32 @@
-use Rattle.std.proofs.Common.{◌≡◌, false, sym, ap, ◌∙◌, arith}
-use Rattle.std.proofs.lemmas.Bool.{eqb-true, eqb-false}
-use Rattle.names.specs.Names.{member}
-use Rattle.names.specs.Lists.{good}
-use Rattle.names.proofs.Cuts.{shorter}
-use Rattle.names.proofs.Search.{start, inside, lines_before, more, stops, unended, all_good, too_many, too_long, no_name, twice, fine}
+use Rattle.std.proofs.Common.{◌+◌, length, inl, sym, ap, ◌∙◌, arith}
+use Rattle.std.proofs.lemmas.List.{length-take-le}
+use Rattle.names.specs.Lists.{lines}
+use Rattle.names.proofs.Search.{Sofar, start, counted, inside, lines_before, stops, goes_on}
 use Rattle.names.proofs.lines.first_bad.Goals as goal
 
-pub loop-line-init : goal.loop-line-init
-loop-line-init c = start c.args.text.now
+pub loop-count-init : goal.loop-count-init
+loop-count-init c =
+    let it = c.into_iter-count-iterator.result in
+    let same = c.into_iter-count-iterator.ensures.into_iter_gives in
+    let whole = ap (λ e. lines e.iter.0.now) same ∙ ap (λ s. lines s.0.now) c.enumerate-count-items.ensures.source in
+    let h = start c.args.text.now (lines it.iter.0.now) it.count whole (ap (λ e. e.count) same ∙ c.enumerate-count-items.ensures.count) in
+    ((tt, tt, inl (omega (arith, counted h))), tt, h)
 
-pub overflow_sub-at : goal.overflow_sub-at
-overflow_sub-at c = inside c.loop-line.invariant
+pub slice_bounds-may_follow-end : goal.slice_bounds-may_follow-end
+slice_bounds-may_follow-end c = sym (length-take-le c.loop-count.at c.args.text.now (inside c.loop-count.invariant.2))
 
-pub returns-then-count-ge-MOST_NAMES : goal.returns-then-count-ge-MOST_NAMES
-returns-then-count-ge-MOST_NAMES c =
-    let p = c.in-Some.ensures in
-    let seen = c.loop-line.invariant.seen in
-    let line = c.in-Some.line.now in
-    let bad : good seen line ≡ false = elim c.then-count-ge-MOST_NAMES.branch [
-      | goal.then-count-ge-MOST_NAMES-via-then-count-ge-MOST_NAMES w ↦ too_many seen line (omega arith)
-      | goal.then-count-ge-MOST_NAMES-via-else-count-ge-MOST_NAMES+then-line-gt-MAX_NAME_BYTES w ↦ too_long seen line w.if-line-gt-MAX_NAME_BYTES.true
-      | goal.then-count-ge-MOST_NAMES-via-else-count-ge-MOST_NAMES+else-line-gt-MAX_NAME_BYTES+then-not-is_name w ↦ no_name seen line (sym w.if-not-is_name.ensures)
-      | goal.then-count-ge-MOST_NAMES-via-else-count-ge-MOST_NAMES+else-line-gt-MAX_NAME_BYTES+else-not-is_name+then-has_line w ↦ twice seen line (sym (w.if-has_line.ensures ∙ ap (member line) (lines_before c.loop-line.invariant)))
-    ]
-    in
-    stops c.loop-line.invariant _ _ p.0 p.1 bad
+pub may_follow-requires : goal.may_follow-requires
+may_follow-requires c = omega (arith, ap length (lines_before c.loop-count.invariant.2), c.in-Some.ensures.steps.1)
 
-pub loop-line-smaller : goal.loop-line-smaller
-loop-line-smaller c = shorter _ _ _ c.in-Some.ensures.1
+pub returns-then-not-may_follow : goal.returns-then-not-may_follow
+returns-then-not-may_follow c = stops c.loop-count.invariant.2 c.in-Some.line.now _ c.in-Some.ensures.steps.0 (sym c.if-not-may_follow.ensures)
 
-pub loop-line-preserved : goal.loop-line-preserved
-loop-line-preserved c =
-    let p = c.in-Some.ensures in
-    let seen = c.loop-line.invariant.seen in
-    let line = c.in-Some.line.now in
-    let is-new = sym (c.if-has_line.ensures ∙ ap (member line) (lines_before c.loop-line.invariant)) in
-    more c.loop-line.invariant _ _ p.0 p.1 (fine seen line (omega arith) c.if-line-gt-MAX_NAME_BYTES.false (sym c.if-not-is_name.ensures) is-new)
+-- what holds after a good line
+after : (c : goal.Else-not-may_follow) → Sofar c.args.text.now (lines c.next.new.self.iter.0.now) c.next.new.self.count (c.loop-count.at + (length c.in-Some.line.now + 1))
+after c = goes_on c.loop-count.invariant.2 c.in-Some.line.now _ c.in-Some.ensures.steps.0 (sym c.if-not-may_follow.ensures) c.next.new.self.count (omega (arith, c.in-Some.ensures.steps.2))
 
-pub returns-then-is_empty : goal.returns-then-is_empty
-returns-then-is_empty c = all_good c.loop-line.invariant c.in_default.ensures (eqb-true _ _ (sym c.if-is_empty.ensures))
+pub overflow_add-at-in-loop-count : goal.overflow_add-at-in-loop-count
+overflow_add-at-in-loop-count c = omega (arith, inside (after c))
 
-pub overflow_sub-result : goal.overflow_sub-result
-overflow_sub-result c = inside c.loop-line.invariant
-
-pub returns : goal.returns
-returns c = unended c.loop-line.invariant c.in_default.ensures (omega (arith, eqb-false _ _ (sym c.if-is_empty.ensures)))
+pub loop-count-preserved : goal.loop-count-preserved
+loop-count-preserved c = ((tt, tt, inl (omega (arith, counted (after c)))), tt, after c)

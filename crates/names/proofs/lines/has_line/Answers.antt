@@ -1,25 +1,16 @@
-use Rattle.std.proofs.Common.{sym, ap, ◌∙◌, arith}
-use Rattle.std.proofs.lemmas.Slice.Eq.{slice_eq-Decides}
+use Rattle.std.proofs.Common.{◌||◌, refl, ◌∙◌, rules}
+use borrow.Author.Tests.{tests}
+use Rattle.std.specs.Str.{bytes_eq}
+use Rattle.std.specs.List.{list_any}
+use Rattle.std.proofs.lemmas.Iterator.Consumers.{YieldsList-from_first}
+use Rattle.std.proofs.lemmas.Iterator.Search.{any_from_yields_List}
+use Rattle.std.proofs.lemmas.List.Recursion.{same_from_clauses}
 use Rattle.names.specs.Names.{member}
-use Rattle.names.proofs.Cuts.{no_line, shorter}
-use Rattle.names.proofs.Numbers.{member_first}
+use Rattle.names.specs.Lists.{lines}
 use Rattle.names.proofs.lines.has_line.Goals as goal
-use Rattle.std.proofs.lemmas.Bool.Decides.{Decides-eqb}
-
-pub returns-then-eq : goal.returns-then-eq
-returns-then-eq c =
-    let p = c.in-Some.ensures in
-    let m = member_first c.args.word.now c.in-Some.line.now c.in-Some.after.now p.0 p.1 c.eq.result (slice_eq-Decides Decides-eqb _ _ _ c.eq.ensures) in
-    grind arith
-
-pub loop-line-smaller : goal.loop-line-smaller
-loop-line-smaller c = shorter _ _ _ c.in-Some.ensures.1
-
-pub loop-line-preserved : goal.loop-line-preserved
-loop-line-preserved c =
-    let p = c.in-Some.ensures in
-    let m = member_first c.args.word.now c.in-Some.line.now c.in-Some.after.now p.0 p.1 c.eq.result (slice_eq-Decides Decides-eqb _ _ _ c.eq.ensures) in
-    grind arith
 
 pub returns : goal.returns
-returns c = sym (ap (member c.args.word.now) (no_line _ c.in_default.ensures)) ∙ c.loop-line.invariant
+returns c =
+    let word = c.args.word.now in
+    let some = any_from_yields_List (λ l. bytes_eq l word) c.any.new.self _ _ c.any.ensures.ran (YieldsList-from_first (λ x. x.now) (λ s. lines s.0.now) (lines c.args.text.now) refl) (λ x b q k. search (rules, tests)) in
+    some ∙ same_from_clauses (list_any (λ l. bytes_eq l word)) (member word) (λ l b. bytes_eq l word || b) refl (λ _ _. refl) (λ _ _. refl) (lines c.args.text.now)

@@ -1,29 +1,33 @@
-use Rattle.std.proofs.Common.{length, sym, ap, ◌∙◌, arith}
-use Rattle.std.proofs.lemmas.Slice.Eq.{slice_eq-Decides}
-use Rattle.names.specs.Lists.{number_from}
-use Rattle.names.proofs.Cuts.{first_line, no_line, shorter}
+use Rattle.std.proofs.Common.{◌≡◌, ◌≢◌, refl, inl, rules, arith}
+use borrow.Author.Tests.{tests}
+use Rattle.std.proofs.lemmas.Iterator.{IsFirst-from_position}
+use Rattle.std.proofs.lemmas.Iterator.Consumers.{YieldsList-from_first}
+use Rattle.names.specs.Lists.{lines}
+use Rattle.names.specs.Listed.{listed}
 use Rattle.names.proofs.Laws.{listed_proper}
-use Rattle.names.proofs.Numbers.{number_first}
+use Rattle.names.proofs.Numbers.{number_at, number_nowhere}
 use Rattle.names.proofs.list.NameList.number.Goals as goal
-use Rattle.std.proofs.lemmas.Bool.Decides.{Decides-eqb}
 
-pub returns-then-eq : goal.returns-then-eq
-returns-then-eq c =
-    let p = c.in-Some.ensures in
-    let m = number_first c.args.word.now c.in-Some.line.now c.in-Some.after.now p.0 p.1 c.eq.result (slice_eq-Decides Decides-eqb _ _ _ c.eq.ensures) c.loop-line.at in
-    grind arith
+pub position-requires-clause-fits : goal.position-requires-clause-fits
+position-requires-clause-fits c = inl (omega (arith, (listed_proper c.args.self.now).few))
 
-pub overflow_add-at : goal.overflow_add-at
-overflow_add-at c = let p = c.in-Some.ensures in omega (arith, (listed_proper c.args.self.now).few, ap length (first_line _ _ p.0 p.1))
+pub returns-in_err-index : goal.returns-in_err-index
+returns-in_err-index c =
+    let word = c.args.word.now in
+    let names = listed c.args.self.now in
+    let none = IsFirst-from_position c.position.new.self _ _ (λ l. l ≡ word) (λ l. l ≢ word) c.in_err-index.ensures.ran (YieldsList-from_first (λ x. x.now) (λ s. lines s.0.now) names refl) (λ x q k. search (rules, tests)) (λ x q k. search (rules, tests)) in
+    let e = number_nowhere names word none in
+    search rules
 
-pub loop-line-smaller : goal.loop-line-smaller
-loop-line-smaller c = shorter _ _ _ c.in-Some.ensures.1
+pub overflow_cast-result : goal.overflow_cast-result
+overflow_cast-result c = omega (arith, (listed_proper c.args.self.now).few, c.in_ok-index.ensures.bound)
 
-pub loop-line-preserved : goal.loop-line-preserved
-loop-line-preserved c =
-    let p = c.in-Some.ensures in
-    let m = number_first c.args.word.now c.in-Some.line.now c.in-Some.after.now p.0 p.1 c.eq.result (slice_eq-Decides Decides-eqb _ _ _ c.eq.ensures) c.loop-line.at in
-    (grind arith, omega (arith, ap length (first_line _ _ p.0 p.1)))
+pub overflow_add-result : goal.overflow_add-result
+overflow_add-result c = omega (arith, (listed_proper c.args.self.now).few, c.in_ok-index.ensures.bound)
 
 pub returns : goal.returns
-returns c = sym (ap (λ ls. number_from c.loop-line.at ls c.args.word.now) (no_line _ c.in_default.ensures)) ∙ c.loop-line.invariant.0
+returns c =
+    let word = c.args.word.now in
+    let names = listed c.args.self.now in
+    let p = IsFirst-from_position c.position.new.self _ _ (λ l. l ≡ word) (λ l. l ≢ word) c.in_ok-index.ensures.ran (YieldsList-from_first (λ x. x.now) (λ s. lines s.0.now) names refl) (λ x q k. search (rules, tests)) (λ x q k. search (rules, tests)) in
+    number_at names (listed_proper c.args.self.now) word c.in_ok-index.index p.0 p.1
