@@ -13,15 +13,10 @@ use Rattle.chain.specs.Laws.{ChainsSame, FewSteps}
 use Rattle.chain.specs.Steps.{blank}
 
 pub length-steps : (c : Chain) → length (steps_of c) ≡ c.len
-length-steps c =
-    let few = c.few in
-    let whole = c.whole in
-    length-take-le c.len c.steps (omega arith)
+length-steps c = length-take-le c.len c.steps (omega (arith, c.few, c.whole))
 
 pub few_steps : FewSteps
-few_steps c =
-    let few = c.few in
-    omega (arith, length-steps c)
+few_steps c = omega (arith, c.few, length-steps c)
 
 -- One more step leaves blanks past it.
 pub rest_more : (c : Chain) (s : Step) → drop (c.len + 1) (set c.steps c.len s) ≡ replicate (15 - (c.len + 1)) blank

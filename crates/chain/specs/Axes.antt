@@ -1,5 +1,6 @@
 -- The code and the word of each axis, and the axis that a word names.
-use Rattle.std.specs.Prelude.{ℕ, cond, List, [], ◌∷◌, Some, None, codes, Option}
+use Rattle.std.specs.Prelude.{ℕ, List, [], ◌∷◌, codes, Option}
+use Rattle.std.specs.List.{find}
 use Rattle.std.specs.Str.{bytes_eq}
 use Rattle.chain.specs.declared.Axis.{Axis}
 use Rattle.chain.specs.declared.Axis.TheVariants.{Child, Parent, Descendant, Ancestor, DescendantOrSelf, AncestorOrSelf, Following, Preceding, FollowingSibling, PrecedingSibling, Itself}
@@ -34,10 +35,6 @@ word_of Itself = codes "self"
 abbrev pub axes : List Axis
 axes = Child ∷ Parent ∷ Descendant ∷ Ancestor ∷ DescendantOrSelf ∷ AncestorOrSelf ∷ Following ∷ Preceding ∷ FollowingSibling ∷ PrecedingSibling ∷ Itself ∷ []
 
--- the first of some axes whose word this is
-abbrev pub worded : List ℕ → List Axis → Option Axis
-worded w [] = None
-worded w (a ∷ rest) = cond (bytes_eq (word_of a) w) (Some a) (worded w rest)
-
+-- the first axis whose word this is
 abbrev pub axis_of : List ℕ → Option Axis
-axis_of w = worded w axes
+axis_of w = find (λ a. bytes_eq (word_of a) w) axes

@@ -13,7 +13,7 @@ pub use theorems::{axes_stand, chains_stand};
 // The axes in the order of their codes, from 1.
 #[derive(Clone, Copy, PartialEq, Eq, Debug)]
 pub enum Axis {
-    Child,
+    Child = 1,
     Parent,
     Descendant,
     Ancestor,
@@ -61,7 +61,7 @@ impl Axis {
     pub fn code(self) -> u8
         ensures { result ≡ code_of self }
     {
-        self as u8 + 1
+        self as u8
     }
 
     pub fn word(self) -> &'static [u8]
@@ -82,15 +82,10 @@ impl Axis {
         }
     }
 
-    // The axis that the word names, if it names one.
+    // The axis that the word names, if it names one; an option, since only the caller knows the place of a refusal.
     pub fn of_word(word: &[u8]) -> Option<Axis>
         ensures { result ≡ axis_of word.now }
     {
-        for axis in Axis::ALL {
-            if axis.word() == word {
-                return Some(axis);
-            }
-        }
-        None
+        Axis::ALL.into_iter().find(|axis| axis.word() == word)
     }
 }
