@@ -1,7 +1,7 @@
 -- Items judged one after the other: the steps that they mean, or the first of their faults.
-use Rattle.std.proofs.Common.{◌≡◌, ℕ, ◌+◌, ◌<◌, ◌≤◌, Bool, true, false, cond, ltb, ◌⊎◌, List, [], ◌∷◌, ◌++◌, length, Some, None, Ok, Err, Option, Result, sym, refl, ap, ◌∙◌, subst, inl, inr, ⊎_elim, append_assoc, append-nil, arith}
+use Rattle.std.proofs.Common.{◌≡◌, ℕ, ◌+◌, ◌<◌, ◌≤◌, Bool, true, false, cond, ltb, List, [], ◌∷◌, ◌++◌, length, Some, None, Ok, Err, Option, Result, sym, refl, ap, ◌∙◌, subst, inl, inr, append_assoc, append-nil, arith}
 use Rattle.std.proofs.lemmas.List.{length-append}
-use Rattle.std.proofs.lemmas.Bool.{ltb-true, ltb-false, true≢false}
+use Rattle.std.proofs.lemmas.Bool.{cond_both, ltb-true, ltb-false}
 use Rattle.refusal.specs.declared.Ground.TheVariants.{UnknownAxis, LongName, UnknownName, TooManySteps}
 use Rattle.refusal.specs.declared.Refusal.{Refusal}
 use Rattle.refusal.specs.Refusals.{refusal}
@@ -23,8 +23,9 @@ pub record Fit (names : List (List ℕ)) (n : List ℕ) : Type 0 where
   pub short : length n ≤ 32
   pub listed : number_of names n ≡ None → ⊥
 
-pub record Unfit (names : List (List ℕ)) (at : ℕ) (n : List ℕ) (r : Refusal) : Type 0 where
-  pub which : ((32 < length n) × (r ≡ refusal LongName at)) ⊎ ((length n ≤ 32) × (number_of names n ≡ None) × (r ≡ refusal UnknownName at))
+pub data Unfit (names : List (List ℕ)) (at : ℕ) (n : List ℕ) : Refusal → Type 0 where
+  long : 32 < length n → Unfit names at n (refusal LongName at)
+  unlisted : length n ≤ 32 → number_of names n ≡ None → Unfit names at n (refusal UnknownName at)
 
 module _ (names : List (List ℕ)) where
   -- what is answered for a test, a step and an item, and what that says of it
@@ -36,65 +37,64 @@ module _ (names : List (List ℕ)) where
   test_verdict at (Named n) = go (ltb 32 (length n)) (number_of names n) refl refl
     where
       go : (x : Bool) (o : Option ℕ) → ltb 32 (length n) ≡ x → number_of names n ≡ o → TestVerdict at (Named n) (cond x (Err (refusal LongName at)) (numbered at o))
-      go true o e h = (n, refl, record { which = inl (ltb-true 32 (length n) e, refl) })
-      go false None e h = (n, refl, record { which = inr (ltb-false 32 (length n) e, h, refl) })
-      go false (Some k) e h = (means_name h, λ m same. let eq : n ≡ m = cc in subst (Fit names) eq (record { short = ltb-false 32 (length n) e; listed = λ z. let w : ◌≡◌ {A = ℕ} 0 1 = cc in omega arith }))
-  test_verdict at Star = (means_star, λ m same. absurd (let w : ◌≡◌ {A = ℕ} 0 1 = cc in omega arith))
-  test_verdict at Texts = (means_text, λ m same. absurd (let w : ◌≡◌ {A = ℕ} 0 1 = cc in omega arith))
-  test_verdict at Nodes = (means_node, λ m same. absurd (let w : ◌≡◌ {A = ℕ} 0 1 = cc in omega arith))
+      go true o e h = (n, refl, long (ltb-true 32 (length n) e))
+      go false None e h = (n, refl, unlisted (ltb-false 32 (length n) e) h)
+      go false (Some k) e h = (means_name h, λ m same. let eq : n ≡ m = cc in subst (Fit names) eq (record { short = ltb-false 32 (length n) e; listed = λ z. cc }))
+  test_verdict at Star = (means_star, λ m same. cc)
+  test_verdict at Texts = (means_text, λ m same. cc)
+  test_verdict at Nodes = (means_node, λ m same. cc)
+
+  -- the axis word of a step, where it has one, is an axis
+  abbrev Known : Written → Type 0
+  Known w = (a : List ℕ) (t : Tested) → w ≡ Along a t → axis_of a ≡ None → ⊥
 
   -- a step without a fault
   pub record Faultless (w : Written) : Type 0 where
-    pub known : (a : List ℕ) (t : Tested) → w ≡ Along a t → axis_of a ≡ None → ⊥
+    pub known : Known w
     pub fit : (n : List ℕ) (d : ℕ) → TestsName w n d → Fit names n
 
+  pub no_item_fault : {count at : ℕ} {i : Item} {q : Refusal} → Faultless i.step → count + step_count i ≤ 15 → ItemFault names count at i q → ⊥
+  no_item_fault f le (unknown_axis e n) = f.known _ _ e n
+  no_item_fault f le (long_name h l) = let k = (f.fit _ _ h).short in omega arith
+  no_item_fault f le (unknown_name h l) = (f.fit _ _ h).listed l
+  no_item_fault f le (too_many l) = omega arith
+
   -- the first fault of a step at a place
-  pub data Faulty (at : ℕ) (w : Written) (r : Refusal) : Type 0 where
-    by_axis : {a : List ℕ} {t : Tested} → w ≡ Along a t → axis_of a ≡ None → r ≡ refusal UnknownAxis at → Faulty at w r
-    by_name : {n : List ℕ} {d : ℕ} → TestsName w n d → ((a : List ℕ) (t : Tested) → w ≡ Along a t → axis_of a ≡ None → ⊥) → Unfit names (at + d) n r → Faulty at w r
+  pub data Faulty (at : ℕ) (w : Written) : Refusal → Type 0 where
+    by_axis : {a : List ℕ} {t : Tested} → w ≡ Along a t → axis_of a ≡ None → Faulty at w (refusal UnknownAxis at)
+    by_name : {n : List ℕ} {d : ℕ} {r : Refusal} → TestsName w n d → Known w → Unfit names (at + d) n r → Faulty at w r
 
   abbrev StepVerdict : ℕ → Written → Result Step Refusal → Type 0
   StepVerdict at w (Ok s) = MeansStep names w s × Faultless w
   StepVerdict at w (Err r) = Faulty at w r
 
-  not_along : {w : Written} → ((a : List ℕ) (t : Tested) → w ≡ Along a t → ◌≡◌ {A = ℕ} 0 1) → (a : List ℕ) (t : Tested) → w ≡ Along a t → axis_of a ≡ None → ⊥
-  not_along h a t e z = let w = h a t e in omega arith
+  in_plain : {t : Tested} {n : List ℕ} {d : ℕ} → TestsName (Plain t) n d → t ≡ Named n
+  in_plain tests_plain = refl
 
-  dot_none : (w : Written) (n : List ℕ) (d : ℕ) → TestsName w n d → (w ≡ Dot → ⊥) × (w ≡ Dots → ⊥)
-  dot_none w n d tests_plain = ((λ e. let z : ◌≡◌ {A = ℕ} 0 1 = cc in omega arith), (λ e. let z : ◌≡◌ {A = ℕ} 0 1 = cc in omega arith))
-  dot_none w n d tests_along = ((λ e. let z : ◌≡◌ {A = ℕ} 0 1 = cc in omega arith), (λ e. let z : ◌≡◌ {A = ℕ} 0 1 = cc in omega arith))
-
-  in_plain : (t : Tested) (w : Written) (n : List ℕ) (d : ℕ) → TestsName w n d → w ≡ Plain t → t ≡ Named n
-  in_plain t w n d tests_plain e = cc
-  in_plain t w n d tests_along e = absurd (let z : ◌≡◌ {A = ℕ} 0 1 = cc in omega arith)
-
-  in_along : (a : List ℕ) (t : Tested) (w : Written) (n : List ℕ) (d : ℕ) → TestsName w n d → w ≡ Along a t → t ≡ Named n
-  in_along a t w n d tests_plain e = absurd (let z : ◌≡◌ {A = ℕ} 0 1 = cc in omega arith)
-  in_along a t w n d tests_along e = cc
+  in_along : {a : List ℕ} {t : Tested} {n : List ℕ} {d : ℕ} → TestsName (Along a t) n d → t ≡ Named n
+  in_along tests_along = refl
 
   step_verdict : (at : ℕ) (w : Written) → StepVerdict at w (step_at names at w)
-  step_verdict at Dot = (means_dot, record { known = not_along (λ a t e. cc); fit = λ n d h. absurd ((dot_none Dot n d h).0 refl) })
-  step_verdict at Dots = (means_dots, record { known = not_along (λ a t e. cc); fit = λ n d h. absurd ((dot_none Dots n d h).1 refl) })
+  step_verdict at Dot = (means_dot, record { known = λ a t e n. cc; fit = λ n d h. elim h [ ] })
+  step_verdict at Dots = (means_dots, record { known = λ a t e n. cc; fit = λ n d h. elim h [ ] })
   step_verdict at (Plain t) = go (test_at names at t) (test_verdict at t)
     where
       go : (o : Result Test Refusal) → TestVerdict at t o → StepVerdict at (Plain t) (step_by Child o)
-      go (Ok u) v = (means_plain v.0, record { known = not_along (λ a t e. cc); fit = λ n d h. v.1 n (in_plain t (Plain t) n d h refl) })
-      go (Err r) v = by_name (subst (λ (x : Tested). TestsName (Plain x) v.0 0) (sym v.1) tests_plain) (not_along (λ a t e. cc)) (subst (λ (k : ℕ). Unfit names k v.0 r) (omega arith) v.2)
+      go (Ok u) v = (means_plain v.0, record { known = λ a t e n. cc; fit = λ n d h. v.1 n (in_plain h) })
+      go (Err r) v = by_name (subst (λ (x : Tested). TestsName (Plain x) v.0 0) (sym v.1) tests_plain) (λ a t e n. cc) (subst (λ (k : ℕ). Unfit names k v.0 r) (omega arith) v.2)
   step_verdict at (Along a t) = go (axis_of a) refl (test_at names (at + (length a + 2)) t) (test_verdict (at + (length a + 2)) t)
     where
       go : (x : Option Axis) → axis_of a ≡ x → (o : Result Test Refusal) → TestVerdict (at + (length a + 2)) t o → StepVerdict at (Along a t) (along_by x at o)
-      go None e o v = by_axis refl e refl
-      go (Some x) e (Ok u) v = (means_along e v.0, record { known = λ b s same n. let eq : a ≡ b = cc in let z : ◌≡◌ {A = ℕ} 0 1 = cc in omega arith; fit = λ n d h. v.1 n (in_along a t (Along a t) n d h refl) })
-      go (Some x) e (Err r) v = by_name (subst (λ (y : Tested). TestsName (Along a y) v.0 (length a + 2)) (sym v.1) tests_along) (λ b s same n. let eq : a ≡ b = cc in let z : ◌≡◌ {A = ℕ} 0 1 = cc in omega arith) v.2
+      go None e o v = by_axis refl e
+      go (Some x) e (Ok u) v = (means_along e v.0, record { known = λ b s same n. cc; fit = λ n d h. v.1 n (in_along h) })
+      go (Some x) e (Err r) v = by_name (subst (λ (y : Tested). TestsName (Along a y) v.0 (length a + 2)) (sym v.1) tests_along) (λ b s same n. cc) v.2
 
-  same_name : {v w : Written} {n m : List ℕ} {d e : ℕ} → TestsName v n d → TestsName w m e → v ≡ w → (n ≡ m) × (d ≡ e)
-  same_name tests_plain tests_plain z = (cc, refl)
-  same_name tests_plain tests_along z = absurd (let x : ◌≡◌ {A = ℕ} 0 1 = cc in omega arith)
-  same_name tests_along tests_plain z = absurd (let x : ◌≡◌ {A = ℕ} 0 1 = cc in omega arith)
-  same_name (tests_along {w = v}) (tests_along {w = w}) z = let a : v ≡ w = cc in (cc, ap (λ (l : List ℕ). length l + 2) a)
+  same_name : {w : Written} {n m : List ℕ} {d e : ℕ} → TestsName w n d → TestsName w m e → (n ≡ m) × (d ≡ e)
+  same_name tests_plain tests_plain = (refl, refl)
+  same_name tests_along tests_along = (refl, refl)
 
   past_axis : {w : Written} {n : List ℕ} {d : ℕ} → TestsName w n d → (a : List ℕ) (t : Tested) → w ≡ Along a t → 0 < d
-  past_axis tests_plain a t e = absurd (let x : ◌≡◌ {A = ℕ} 0 1 = cc in omega arith)
+  past_axis tests_plain a t e = cc
   past_axis tests_along a t e = omega arith
 
   separator_long : (k : Separator) → 0 < length (separator_text k)
@@ -102,7 +102,7 @@ module _ (names : List (List ℕ)) where
   separator_long Slashes = omega arith
 
   name_long : (n : List ℕ) → is_name n ≡ true → 0 < length n
-  name_long [] h = absurd (true≢false (sym h))
+  name_long [] h = cc
   name_long (b ∷ n) h = omega arith
 
   inside : {w : Written} {n : List ℕ} {d : ℕ} → TestsName w n d → FineStep w → d < length (step_text w)
@@ -137,21 +137,19 @@ module _ (names : List (List ℕ)) where
         let p = separator_long i.separator in
         record {
           fault = too_many h;
-          first = λ q f. later q f;
+          first = later;
           before = λ f. omega (arith, width);
         }
       where
         later : (q : Refusal) → ItemFault names (length ss) at i q → NoLater (refusal TooManySteps at) q
-        later q (unknown_axis e n) = inl (omega (arith, separator_long i.separator))
-        later q (long_name t l) = inl (omega (arith, separator_long i.separator))
-        later q (unknown_name t l) = inl (omega (arith, separator_long i.separator))
         later q (too_many l) = inr (refl, omega arith)
+        later q _ = inl (omega (arith, separator_long i.separator))
 
     module _ (roomy : length ss + step_count i ≤ 15) where
       axis_bad : (a : List ℕ) (t : Tested) → i.step ≡ Along a t → axis_of a ≡ None → ItemBad (refusal UnknownAxis (after_separator at i))
       axis_bad a t e n = record {
         fault = unknown_axis e n;
-        first = λ q f. later q f;
+        first = later;
         before = λ f. omega (arith, width, axis_inside a t e);
       }
         where
@@ -161,39 +159,22 @@ module _ (names : List (List ℕ)) where
           later q (unknown_name h l) = inl (omega (arith, past_axis h a t e))
           later q (too_many l) = absurd (omega arith)
 
-      long_bad : (n : List ℕ) (d : ℕ) → TestsName i.step n d → ((a : List ℕ) (t : Tested) → i.step ≡ Along a t → axis_of a ≡ None → ⊥) → 32 < length n → ItemBad (refusal LongName (after_separator at i + d))
-      long_bad n d t known l = record {
-        fault = long_name t l;
-        first = λ q f. later q f;
-        before = λ f. omega (arith, width, inside t f);
-      }
-        where
-          later : (q : Refusal) → ItemFault names (length ss) at i q → NoLater (refusal LongName (after_separator at i + d)) q
-          later q (unknown_axis e n) = absurd (known _ _ e n)
-          later q (long_name h l) = inr (ap (λ k. after_separator at i + k) (same_name t h refl).1, omega arith)
-          later q (unknown_name h l) = inr (ap (λ k. after_separator at i + k) (same_name t h refl).1, omega arith)
-          later q (too_many l) = absurd (omega arith)
+      module _ {n : List ℕ} {d : ℕ} (t : TestsName i.step n d) (known : Known i.step) where
+        name_first : {r : Refusal} → Unfit names (after_separator at i + d) n r → (q : Refusal) → ItemFault names (length ss) at i q → NoLater r q
+        name_first u q (unknown_axis e n) = absurd (known _ _ e n)
+        name_first (long l) q (long_name h k) = inr (omega (arith, (same_name t h).1), omega arith)
+        name_first (unlisted s l) q (long_name h k) = absurd (omega (arith, ap length (same_name t h).0))
+        name_first (long l) q (unknown_name h k) = inr (omega (arith, (same_name t h).1), omega arith)
+        name_first (unlisted s l) q (unknown_name h k) = inr (omega (arith, (same_name t h).1), omega arith)
+        name_first u q (too_many l) = absurd (omega arith)
 
-      unlisted_bad : (n : List ℕ) (d : ℕ) → TestsName i.step n d → ((a : List ℕ) (t : Tested) → i.step ≡ Along a t → axis_of a ≡ None → ⊥) → length n ≤ 32 → number_of names n ≡ None → ItemBad (refusal UnknownName (after_separator at i + d))
-      unlisted_bad n d t known s l = record {
-        fault = unknown_name t l;
-        first = λ q f. later q f;
-        before = λ f. omega (arith, width, inside t f);
-      }
-        where
-          later : (q : Refusal) → ItemFault names (length ss) at i q → NoLater (refusal UnknownName (after_separator at i + d)) q
-          later q (unknown_axis e n) = absurd (known _ _ e n)
-          later q (long_name h l) = absurd (omega (arith, ap length (same_name t h refl).0))
-          later q (unknown_name h l) = inr (ap (λ k. after_separator at i + k) (same_name t h refl).1, omega arith)
-          later q (too_many l) = absurd (omega arith)
+        name_bad : {r : Refusal} → Unfit names (after_separator at i + d) n r → ItemBad r
+        name_bad (long l) = record { fault = long_name t l; first = name_first (long l); before = λ f. omega (arith, width, inside t f) }
+        name_bad (unlisted s l) = record { fault = unknown_name t l; first = name_first (unlisted s l); before = λ f. omega (arith, width, inside t f) }
 
       faulty_bad : (r : Refusal) → Faulty (after_separator at i) i.step r → ItemBad r
-      faulty_bad r (by_axis {a} {t} e n z) = subst ItemBad (sym z) (axis_bad a t e n)
-      faulty_bad r (by_name {n} {d} t known u) =
-          ⊎_elim
-          (λ x. subst ItemBad (sym x.1) (long_bad n d t known x.0))
-          (λ x. subst ItemBad (sym x.2) (unlisted_bad n d t known x.0 x.1))
-          u.which
+      faulty_bad r (by_axis {a} {t} e n) = axis_bad a t e n
+      faulty_bad r (by_name t known u) = name_bad t known u
 
       all_fine : (s : Step) → MeansStep names i.step s → Faultless i.step → ItemFine ((ss ++ hidden i.separator) ++ s ∷ [])
       all_fine s m f = record {
@@ -201,37 +182,26 @@ module _ (names : List (List ℕ)) where
         means = m;
         is = append_assoc ss (hidden i.separator) (s ∷ []);
         few = omega (arith, length-append (ss ++ hidden i.separator) (s ∷ []), length-append ss (hidden i.separator));
-        none = λ q x. never q x;
+        none = λ q h. no_item_fault f roomy h;
       }
-        where
-          never : (q : Refusal) → ItemFault names (length ss) at i q → ⊥
-          never q (unknown_axis e n) = f.known _ _ e n
-          never q (long_name h l) = let k = (f.fit _ _ h).short in omega arith
-          never q (unknown_name h l) = (f.fit _ _ h).listed l
-          never q (too_many l) = omega arith
 
     item_verdict : ItemVerdict (extended names ss at i)
-    item_verdict = go (ltb 15 (length ss + step_count i)) refl (step_at names (after_separator at i) i.step) (step_verdict (after_separator at i) i.step)
+    item_verdict =
+        cond_both (ltb 15 (length ss + step_count i)) _ _ ItemVerdict
+        (λ e. crowded (ltb-true 15 _ e))
+        (λ e. go (ltb-false 15 _ e) (step_at names (after_separator at i) i.step) (step_verdict (after_separator at i) i.step))
       where
-        go : (x : Bool) → ltb 15 (length ss + step_count i) ≡ x → (o : Result Step Refusal) → StepVerdict (after_separator at i) i.step o
-            → ItemVerdict (cond x (Err (refusal TooManySteps at)) (pushed (ss ++ hidden i.separator) o))
-        go true e o v = crowded (ltb-true 15 _ e)
-        go false e (Ok s) v = all_fine (ltb-false 15 _ e) s v.0 v.1
-        go false e (Err r) v = faulty_bad (ltb-false 15 _ e) r v
+        go : length ss + step_count i ≤ 15 → (o : Result Step Refusal) → StepVerdict (after_separator at i) i.step o → ItemVerdict (pushed (ss ++ hidden i.separator) o)
+        go roomy (Ok s) v = all_fine roomy s v.0 v.1
+        go roomy (Err r) v = faulty_bad roomy r v
 
   item_from : {count at : ℕ} {i : Item} {q : Refusal} → ItemFault names count at i q → at ≤ q.place
   item_from (unknown_axis e n) = omega arith
-  item_from (long_name t l) = omega arith
-  item_from (unknown_name t l) = omega arith
-  item_from (too_many l) = omega arith
+  item_from _ = omega arith
 
   fault_from : {count at : ℕ} {is : List Item} {q : Refusal} → Fault names count at is q → at ≤ q.place
   fault_from (here f) = item_from f
   fault_from (there f) = let p = fault_from f in omega arith
-
-  pub no_fault : {count at : ℕ} {is : List Item} {q : Refusal} → Fault names count at is q → is ≡ [] → ⊥
-  no_fault (here f) e = let z : ◌≡◌ {A = ℕ} 0 1 = cc in omega arith
-  no_fault (there f) e = let z : ◌≡◌ {A = ℕ} 0 1 = cc in omega arith
 
   -- the items of a list, where these steps and this place come before them
   pub record AllFine (ss : List Step) (at : ℕ) (is : List Item) (out : List Step) : Type 0 where
@@ -255,7 +225,7 @@ module _ (names : List (List ℕ)) where
 
   module _ (ss : List Step) (at : ℕ) (i : Item) (is : List Item) where
     bad_here : (r : Refusal) → FineStep i.step → ItemBad ss at i r → SomeBad ss at (i ∷ is) r
-    bad_here r f b = record { fault = here b.fault; first = λ q h. later q h }
+    bad_here r f b = record { fault = here b.fault; first = later }
       where
         later : (q : Refusal) → Fault names (length ss) at (i ∷ is) q → NoLater r q
         later q (here h) = b.first q h
@@ -274,7 +244,7 @@ module _ (names : List (List ℕ)) where
         means = means_item g.means a.means;
         out_is = a.out_is ∙ ap (λ l. l ++ a.steps) g.is ∙ simp append_assoc;
         few = a.few;
-        none = λ q h. never q h;
+        none = never;
       }
         where
           never : (q : Refusal) → Fault names (length ss) at (i ∷ is) q → ⊥
@@ -284,7 +254,7 @@ module _ (names : List (List ℕ)) where
       bad_there : (r : Refusal) → SomeBad mid (at + length (item_text i)) is r → SomeBad ss at (i ∷ is) r
       bad_there r b = record {
         fault = there (subst (λ (c : ℕ). Fault names c (at + length (item_text i)) is r) count b.fault);
-        first = λ q h. later q h;
+        first = later;
       }
         where
           later : (q : Refusal) → Fault names (length ss) at (i ∷ is) q → NoLater r q
@@ -292,7 +262,7 @@ module _ (names : List (List ℕ)) where
           later q (there h) = b.first q (on h)
 
   judge : (ss : List Step) (at : ℕ) (is : List Item) → FineItems is → length ss ≤ 15 → Outcome ss at is (judged_by names (Ok ss) at is)
-  judge ss at [] f le = record { steps = []; means = means_none; out_is = sym (append-nil ss); few = le; none = λ q h. no_fault h refl }
+  judge ss at [] f le = record { steps = []; means = means_none; out_is = sym (append-nil ss); few = le; none = λ q h. elim h [ ] }
   judge ss at (i ∷ is) f le = go (extended names ss at i) (item_verdict ss at i) (λ mid g. judge mid (at + length (item_text i)) is f.1 g.few)
     where
       on : (mid : List Step) → ItemFine ss at i mid → (o : Result (List Step) Refusal) → Outcome mid (at + length (item_text i)) is o → Outcome ss at (i ∷ is) o

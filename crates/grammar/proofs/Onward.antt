@@ -1,6 +1,6 @@
 -- How the scanner goes through the parts of a text: what a reader's functions are proved by.
-use Rattle.std.proofs.Common.{◌≡◌, ℕ, Bool, true, false, cond, ◌||◌, eqb, ◌⊎◌, List, [], ◌∷◌, ◌++◌, Some, None, Err, Option, sym, refl, ap, ◌∙◌, inl, inr, ⊎_elim, append_assoc, append-nil}
-use Rattle.std.proofs.lemmas.Bool.{cond-true, cond-false, and_parts, eqb-true, true≢false}
+use Rattle.std.proofs.Common.{◌≡◌, ℕ, Bool, true, false, cond, eqb, ◌⊎◌, List, [], ◌∷◌, ◌++◌, Some, None, Err, Option, sym, refl, ap, ◌∙◌, inl, inr, ⊎_elim, append_assoc, append-nil}
+use Rattle.std.proofs.lemmas.Bool.{cond-true, cond-false, and_parts, eqb-true, ne_eqb}
 use Rattle.names.specs.Classes.{class_of, begins, goes}
 use Rattle.names.specs.Names.{all_go, is_name}
 use Rattle.grammar.specs.Grammar.{Separator, Slash, Slashes, Tested, Named, Written, Dot, Along, Item}
@@ -17,6 +17,10 @@ take_step p q b s e = ap (λ o. onward o (λ r. scan r s) (b ∷ s)) e
 pub no_step : (p : State) (b : ℕ) (s : List ℕ) → step p b ≡ None → scan p (b ∷ s) ≡ Err (b ∷ s)
 no_step p b s e = ap (λ o. onward o (λ r. scan r s) (b ∷ s)) e
 
+no_byte : (p : State) (f : ℕ → Bool) → accept p ≡ None → ((b : ℕ) → f b ≡ false → step p b ≡ None) → (s : List ℕ) → heads f s ≡ false → scan p s ≡ Err s
+no_byte p f e g [] h = ap at_end e
+no_byte p f e g (b ∷ s) h = no_step p b s (g b h)
+
 accept_with : (is : List Item) (k : Separator) (w : Written) → accept (Whole (with is k w)) ≡ Some (with is k w)
 accept_with [] k w = refl
 accept_with (i ∷ is) k w = refl
@@ -24,24 +28,14 @@ accept_with (i ∷ is) k w = refl
 head_of : (f : ℕ → Bool) {s : List ℕ} (b : ℕ) (t : List ℕ) → heads f s ≡ false → s ≡ b ∷ t → f b ≡ false
 head_of f b t h e = sym (ap (heads f) e) ∙ h
 
--- no byte of a name is a mark
-pub not_mark : (b c : ℕ) → goes b ≡ true → goes c ≡ false → eqb b c ≡ false
-not_mark b c g n = go (eqb b c) refl
-  where
-    go : (x : Bool) → eqb b c ≡ x → x ≡ false
-    go true e = absurd (true≢false (sym g ∙ ap goes (eqb-true b c e) ∙ n))
-    go false e = refl
-
-pub begins_goes : (b : ℕ) → begins b ≡ true → goes b ≡ true
-begins_goes b h = ap (λ x. x || eqb (class_of b) 2) h
+-- a byte that f holds of is no byte that it does not hold of
+pub unlike : (f : ℕ → Bool) (b c : ℕ) → f b ≡ true → f c ≡ false → eqb b c ≡ false
+unlike f b c h n = ne_eqb b c (λ e. let g = ap f e in cc)
 
 module _ (is : List Item) (k : Separator) where
-  pub dot_ends : (s : List ℕ) → heads (λ b. eqb b 46) s ≡ false → scan (OneDot is k) s ≡ scan (Whole (with is k Dot)) s
-  dot_ends s h =
-      same_scan (OneDot is k) (Whole (with is k Dot)) s (sym (accept_with is k Dot)) (λ b t e. cond-false (eqb b 46) _ _ (head_of (λ b. eqb b 46) b t h e))
-
   pub one_dot : (s : List ℕ) → heads (λ b. eqb b 46) s ≡ false → scan (Want is k) (46 ∷ s) ≡ scan (Whole (with is k Dot)) s
-  one_dot s h = dot_ends s h
+  one_dot s h =
+      same_scan (OneDot is k) (Whole (with is k Dot)) s (sym (accept_with is k Dot)) (λ b t e. cond-false (eqb b 46) _ _ (head_of (λ b. eqb b 46) b t h e))
 
   -- a name that has ended
   by_mark : (a : Option (List ℕ)) (n : List ℕ) (b : ℕ) → (a ≡ None → eqb b 58 ≡ false) → (eqb b 40 ≡ false) ⊎ (kind_test n ≡ None)
@@ -50,9 +44,9 @@ module _ (is : List Item) (k : Separator) where
     where
       go : (a : Option (List ℕ)) (x y : Bool) → eqb b 58 ≡ x → eqb b 40 ≡ y → (a ≡ None → x ≡ false) → (y ≡ false) ⊎ (kind_test n ≡ None)
           → cond x (colon is k a n) (cond y (paren_by is k a (kind_test n)) (ended (with is k (tested a (Named n))) b)) ≡ ended (with is k (tested a (Named n))) b
-      go None true y ex ey c p = absurd (true≢false (c refl))
+      go None true y ex ey c p = let z = c refl in cc
       go (Some a) true y ex ey c p = sym (ap (ended (with is k (Along a (Named n)))) (eqb-true b 58 ex))
-      go a false true ex ey c (inl h) = absurd (true≢false h)
+      go a false true ex ey c (inl h) = cc
       go a false true ex ey c (inr h) = ap (paren_by is k a) h ∙ sym (ap (ended (with is k (tested a (Named n)))) (eqb-true b 40 ey))
       go a false false ex ey c p = refl
 
@@ -73,30 +67,21 @@ module _ (is : List Item) (k : Separator) where
 
   test_begins : (a : Option (List ℕ)) (b : ℕ) → begins b ≡ true → test is k a b ≡ Some (InName is k a (b ∷ []))
   unfolding class_of
-  test_begins a b h = cond-false (eqb b 42) _ _ (not_mark b 42 (begins_goes b h) refl) ∙ cond-true (begins b) _ _ h
+  test_begins a b h = cond-false (eqb b 42) _ _ (unlike begins b 42 h refl) ∙ cond-true (begins b) _ _ h
+
+  from_state : (p : State) (a : Option (List ℕ)) → ((b : ℕ) → begins b ≡ true → step p b ≡ Some (InName is k a (b ∷ []))) → (n s : List ℕ) → is_name n ≡ true → scan p (n ++ s) ≡ scan (InName is k a n) s
+  from_state p a f [] s h = cc
+  from_state p a f (b ∷ n) s h =
+      let q = and_parts (begins b) (all_go n) h in
+      take_step p (InName is k a (b ∷ [])) b (n ++ s) (f b q.0) ∙ goes_through a (b ∷ []) n s q.1
 
   -- a name where a step or a test is wanted
   pub plain_name : (n s : List ℕ) → is_name n ≡ true → scan (Want is k) (n ++ s) ≡ scan (InName is k None n) s
   unfolding class_of
-  plain_name [] s h = absurd (true≢false (sym h))
-  plain_name (b ∷ n) s h =
-      let p = and_parts (begins b) (all_go n) h in
-      take_step (Want is k) (InName is k None (b ∷ [])) b (n ++ s) (cond-false (eqb b 46) _ _ (no_dot b p.0) ∙ test_begins None b p.0)
-      ∙ goes_through None (b ∷ []) n s p.1
-    where
-      no_dot : (b : ℕ) → begins b ≡ true → eqb b 46 ≡ false
-      no_dot b h = go (eqb b 46) refl
-        where
-          go : (x : Bool) → eqb b 46 ≡ x → x ≡ false
-          go true e = absurd (true≢false (sym h ∙ ap begins (eqb-true b 46 e)))
-          go false e = refl
+  plain_name = from_state (Want is k) None (λ b h. cond-false (eqb b 46) _ _ (unlike begins b 46 h refl) ∙ test_begins None b h)
 
   pub axis_name : (a n s : List ℕ) → is_name n ≡ true → scan (AxisWord is k a) (n ++ s) ≡ scan (InName is k (Some a) n) s
-  axis_name a [] s h = absurd (true≢false (sym h))
-  axis_name a (b ∷ n) s h =
-      let p = and_parts (begins b) (all_go n) h in
-      take_step (AxisWord is k a) (InName is k (Some a) (b ∷ [])) b (n ++ s) (test_begins (Some a) b p.0)
-      ∙ goes_through (Some a) (b ∷ []) n s p.1
+  axis_name a = from_state (AxisWord is k a) (Some a) (test_begins (Some a))
 
   -- what follows a name
   pub axis_ends : (n s : List ℕ) → scan (InName is k None n) (58 ∷ 58 ∷ s) ≡ scan (AxisWord is k n) s
@@ -105,8 +90,7 @@ module _ (is : List Item) (k : Separator) where
 
   pub half_axis : (n s : List ℕ) → heads (λ b. eqb b 58) s ≡ false → scan (InName is k None n) (58 ∷ s) ≡ Err s
   unfolding class_of
-  half_axis n [] h = refl
-  half_axis n (b ∷ s) h = no_step (Colon is k n) b s (cond-false (eqb b 58) _ _ h)
+  half_axis n s h = no_byte (Colon is k n) (λ b. eqb b 58) refl (λ b. cond-false (eqb b 58) _ _) s h
 
   pub kind_ends : (a : Option (List ℕ)) (n s : List ℕ) (t : Tested) → kind_test n ≡ Some t → scan (InName is k a n) (40 ∷ 41 ∷ s) ≡ scan (Whole (with is k (tested a t))) s
   unfolding class_of
@@ -114,17 +98,9 @@ module _ (is : List Item) (k : Separator) where
 
   pub half_kind : (a : Option (List ℕ)) (n s : List ℕ) (t : Tested) → kind_test n ≡ Some t → heads (λ b. eqb b 41) s ≡ false → scan (InName is k a n) (40 ∷ s) ≡ Err s
   unfolding class_of
-  half_kind a n s t e h = take_step (InName is k a n) (Paren is k a t) 40 s (ap (paren_by is k a) e) ∙ stuck s h
-    where
-      stuck : (s : List ℕ) → heads (λ b. eqb b 41) s ≡ false → scan (Paren is k a t) s ≡ Err s
-      stuck [] h = refl
-      stuck (b ∷ s) h = no_step (Paren is k a t) b s (cond-false (eqb b 41) _ _ h)
+  half_kind a n s t e h = take_step (InName is k a n) (Paren is k a t) 40 s (ap (paren_by is k a) e) ∙ no_byte (Paren is k a t) (λ b. eqb b 41) refl (λ b. cond-false (eqb b 41) _ _) s h
 
-  -- where no step begins
-  pub no_want : (s : List ℕ) → heads (λ b. eqb b 46) s ≡ false → heads (λ b. eqb b 42) s ≡ false → heads begins s ≡ false → scan (Want is k) s ≡ Err s
-  no_want [] d m n = refl
-  no_want (b ∷ s) d m n = no_step (Want is k) b s (cond-false (eqb b 46) _ _ d ∙ cond-false (eqb b 42) _ _ m ∙ cond-false (begins b) _ _ n)
-
+  -- where no test begins
   pub no_test : (a : List ℕ) (s : List ℕ) → heads (λ b. eqb b 42) s ≡ false → heads begins s ≡ false → scan (AxisWord is k a) s ≡ Err s
   no_test a [] m n = refl
   no_test a (b ∷ s) m n = no_step (AxisWord is k a) b s (cond-false (eqb b 42) _ _ m ∙ cond-false (begins b) _ _ n)

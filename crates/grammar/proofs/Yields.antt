@@ -47,8 +47,7 @@ derive_items i (j ∷ is) h = more (derive_item i h.0) (derive_items j is h.1)
 yield_test : {s : List ℕ} {t : Tested} → IsTest s t → (s ≡ test_text t) × FineTest t
 yield_test (named h) = (refl, h)
 yield_test star = (refl, tt)
-yield_test texts = (refl, tt)
-yield_test nodes = (refl, tt)
+yield_test _ = (refl, tt)
 
 yield_step : {s : List ℕ} {w : Written} → IsStep s w → (s ≡ step_text w) × FineStep w
 yield_step dot = (refl, tt)
