@@ -1,4 +1,3 @@
 pub mod Cutting
-pub mod Extending
 pub mod Progress
 pub mod Forming

@@ -1,13 +1,11 @@
 -- How far a text of items has been read.
-use Rattle.std.proofs.Common.{◌≡◌, ℕ, ◌+◌, ◌-◌, ◌<◌, ◌≤◌, true, false, eqb, List, [], ◌∷◌, ◌++◌, length, Ok, Err, Result, sym, refl, ap, ◌∙◌, subst, append_assoc, arith}
+use Rattle.std.proofs.Common.{◌≡◌, ℕ, ◌+◌, ◌-◌, ◌<◌, ◌≤◌, false, eqb, List, [], ◌∷◌, ◌++◌, length, Ok, Err, Result, sym, refl, ap, ◌∙◌, subst, append_assoc, arith}
 use Rattle.std.proofs.lemmas.List.{length-append}
-use Rattle.std.proofs.lemmas.Bool.{eqb-true}
 use Rattle.refusal.specs.declared.Refusal.{Refusal}
 use Rattle.refusal.specs.declared.Ground.TheVariants.{NotPath}
 use Rattle.refusal.specs.Refusals.{refusal}
 use Rattle.chain.specs.declared.chain.Chain.{Chain}
-use Rattle.chain.specs.Chains.{steps_of}
-use Rattle.grammar.specs.Grammar.{Separator, Slash, Slashes, Written, Item}
+use Rattle.grammar.specs.Grammar.{Separator, Written, Item}
 use Rattle.grammar.specs.Texts.{separator_text, step_text, item_text, items_text}
 use Rattle.grammar.specs.Readings.{Reads}
 use Rattle.grammar.specs.Scanner.{Whole, scan, begin, heads}
@@ -25,15 +23,9 @@ pub record Sofar (names : List (List ℕ)) (text rest : List ℕ) (sofar : Resul
   pub on : scan begin text ≡ scan (Whole items) rest
   pub is : chained sofar ≡ judged names items
 
-pub start : (names : List (List ℕ)) (text : List ℕ) (c : Chain) → steps_of c ≡ [] → Sofar names text text (Ok c)
-start names text c e = record { items = []; split = refl; on = refl; is = ap (λ l. Ok l) e }
-
 module _ {names : List (List ℕ)} {text rest : List ℕ} {sofar : Result Chain Refusal} (h : Sofar names text rest sofar) where
   lengths : length text ≡ length (items_text h.items) + length rest
   lengths = ap length h.split ∙ length-append (items_text h.items) rest
-
-  pub inside : length rest ≤ length text
-  inside = omega (arith, lengths)
 
   place : length text - length rest ≡ length (items_text h.items)
   place = omega (arith, lengths)
@@ -49,9 +41,6 @@ module _ {names : List (List ℕ)} {text rest : List ℕ} {sofar : Result Chain 
       cut : rest ≡ item_text next ++ after
       cut = s.split ∙ ap (λ l. separator_text k ++ l) c.split ∙ sym (append_assoc (separator_text k) (step_text w) after)
 
-      pub fits : length text ≤ 1024 → length text - length rest + length (item_text next) ≤ 1024
-      fits le = omega (arith, lengths, ap length cut, length-append (item_text next) after)
-
       pub further : (new : Result Chain Refusal) → chained new ≡ go_on names (chained sofar) (length text - length rest) next → Sofar names text after new
       further new e = record {
         items = h.items ++ next ∷ [];
@@ -59,9 +48,6 @@ module _ {names : List (List ℕ)} {text rest : List ℕ} {sofar : Result Chain 
         on = h.on ∙ s.on h.items ∙ c.on h.items k;
         is = e ∙ ap (λ o. go_on names o (length text - length rest) next) h.is ∙ ap (λ n. go_on names (judged names h.items) n next) place ∙ sym (judged_snoc names h.items next);
       }
-
-      pub shorter : 0 < length (separator_text k) → length after < length rest
-      shorter p = omega (arith, ap length cut, length-append (item_text next) after, length-append (separator_text k) (step_text w))
 
   whole : (is : List Item) → 0 < length (items_text is) → scan (Whole is) [] ≡ Ok is
   whole [] p = absurd (omega arith)
@@ -81,11 +67,7 @@ module _ {names : List (List ℕ)} {text rest : List ℕ} {sofar : Result Chain 
       stuck [] n p = absurd (omega arith)
       stuck (b ∷ r) n p = no_separator h.items b r n
 
-pub separator_some : (k : Separator) → 0 < length (separator_text k)
-separator_some Slash = omega arith
-separator_some Slashes = omega arith
-
-pub nothing : (text : List ℕ) → length text ≡ 0 → scan begin text ≡ Err []
+nothing : (text : List ℕ) → length text ≡ 0 → scan begin text ≡ Err []
 nothing [] e = refl
 nothing (b ∷ s) e = absurd (omega arith)
 
@@ -95,9 +77,8 @@ stuck_inside text rest e = let l = left text rest e in omega (arith, ap length l
 pub refused_as : {names : List (List ℕ)} {text : List ℕ} {q : Refusal} (r : Refusal) → r ≡ q → Reads names text (Err q) → Reads names text (Err r)
 refused_as {names} {text} r e h = subst (λ (x : Refusal). Reads names text (Err x)) (sym e) h
 
-pub reads_nothing : (names : List (List ℕ)) (text : List ℕ) → true ≡ eqb (length text) 0 → Reads names text (Err (refusal NotPath 0))
-reads_nothing names text z =
-    let e = eqb-true (length text) 0 (sym z) in
+pub reads_nothing : (names : List (List ℕ)) (text : List ℕ) → length text ≡ 0 → Reads names text (Err (refusal NotPath 0))
+reads_nothing names text e =
     let none : length text - 0 ≡ 0 = omega arith in
     subst (λ (n : ℕ). Reads names text (Err (refusal NotPath n))) none
     (reads_stuck names text (omega arith) [] (λ s. omega (arith, ap length s)) (nothing text e))

@@ -1,6 +1,6 @@
 -- What the reader's functions cut off the front of a text, by the grammar's scanner.
-use Rattle.std.specs.Prelude.{◌≡◌, ℕ, ◌<◌, ◌≤◌, true, false, List, ◌++◌, length, take, drop, None, Ok, Err, Option, Result, nat_eq}
-use Rattle.names.specs.Classes.{begins, goes}
+use Rattle.std.specs.Prelude.{◌≡◌, ℕ, true, false, List, ◌++◌, None, Ok, Err, Option, Result, nat_eq}
+use Rattle.names.specs.Classes.{goes}
 use Rattle.names.specs.Names.{is_name}
 use Rattle.grammar.specs.Grammar.{Separator, Tested, Written, Along, Item}
 use Rattle.grammar.specs.Texts.{separator_text, test_text, step_text}
@@ -14,13 +14,7 @@ use Rattle.grammar.specs.Scanner.{Whole, Want, InName, AxisWord, with, tested, s
 abbrev pub Cut : Type 0 → Type 0
 Cut T = Result (T × Bor (List ℕ)) (Bor (List ℕ))
 
--- The first n bytes are the longest name that the text begins with; n is 0 if it begins with none.
-pub record NameEnd (text : List ℕ) (n : ℕ) : Type 0 where
-  pub within : n ≤ length text
-  pub named : 0 < n → is_name (take n text) ≡ true
-  pub none : n ≡ 0 → heads begins text ≡ false
-  pub stops : 0 < n → heads goes (drop n text) ≡ false
-
+-- A name that the text begins with, as long as it goes.
 pub record NameCut (text name rest : List ℕ) : Type 0 where
   pub split : text ≡ name ++ rest
   pub named : is_name name ≡ true

@@ -1,16 +1,21 @@
 // The long form of a chain: each step as /axis::test, and no steps as '/'.
 ghost use Rattle.std.specs.Prelude.{◌≡◌, ◌+◌, ◌≤◌, true, false, ◌++◌, length, take, MatchOption};
+ghost use Rattle.arrayvec.specs.ArrayVec.{array_vec_len};
 ghost use Rattle.names.specs.Listed.{listed};
 ghost use Rattle.grammar.specs.LongForm.{long_test, unlisted, Writes, WritesListed, Rewrites};
 ghost use Rattle.paths.specs.Forms.{StepPut, Composed};
 
 use super::reader::read_by;
+use arrayvec::ArrayVec;
 use chain::{Chain, Step, Test};
 use names::NameList;
 use refusal::{Ground, Refusal};
 
 // No long form is longer: fifteen steps of a slash, an axis word of at most 18 bytes, two colons, and a name of at most 32.
 pub const MAX_FORM: usize = 795;
+
+// A long form as it is put together.
+type Form = ArrayVec<u8, MAX_FORM>;
 
 // The text of a test, unless its name is not in the list.
 fn test_text<'a>(names: &NameList<'a>, test: Test) -> Option<&'a [u8]>
@@ -24,60 +29,54 @@ fn test_text<'a>(names: &NameList<'a>, test: Test) -> Option<&'a [u8]>
     }
 }
 
-// Puts a part into the form at a place, and answers the place behind it.
-fn put(form: &mut [u8], at: usize, part: &[u8]) -> usize
-    requires { at + length part.now ≤ length form.old }
-    ensures place { result ≡ at + length part.now }
-    ensures front { take result form.new ≡ take at form.old ++ part.now }
-    ensures size { length form.new ≡ length form.old }
+// Appends a part, for which there is room.
+fn put(form: &mut Form, part: &[u8])
+    requires { array_vec_len form.old + length part.now ≤ 795 }
+    ensures items { form.new.items ≡ form.old.items ++ part.now }
+    ensures len { array_vec_len form.new ≡ array_vec_len form.old + length part.now }
 {
-    let end = at + part.len();
-    form[at..end].copy_from_slice(part);
-    end
+    form.try_extend_from_slice(part).unwrap();
 }
 
-// Puts a step into the form at a place, and answers the place behind it, unless the step's name is not in the list.
-fn put_step(names: &NameList<'_>, step: Step, form: &mut [u8], at: usize) -> Option<usize>
-    requires { at + 53 ≤ length form.old }
-    ensures answer { MatchOption result (unlisted (listed names.now) step.test ≡ true) (λ n. StepPut (listed names.now) step at form.old form.new n) }
-    ensures size { length form.new ≡ length form.old }
+// Appends a step, unless its name is not in the list.
+fn put_step(names: &NameList<'_>, step: Step, form: &mut Form) -> Option<()>
+    requires { array_vec_len form.old + 53 ≤ 795 }
+    ensures { MatchOption result (unlisted (listed names.now) step.test ≡ true) (λ _. StepPut (listed names.now) step form.old.items form.new.items) }
 {
     let test = test_text(names, step.test)?;
-    let word = step.axis.word();
-    let at = put(form, at, b"/");
-    let at = put(form, at, word);
-    let at = put(form, at, b"::");
-    Some(put(form, at, test))
+    put(form, b"/");
+    put(form, step.axis.word());
+    put(form, b"::");
+    put(form, test);
+    Some(())
 }
 
-// Puts the long form of steps into the front of the bytes, and answers its length.
-fn compose(names: &NameList<'_>, steps: &[Step], form: &mut [u8]) -> Result<usize, Refusal>
-    requires { (length steps.now ≤ 15) × (length form.old ≡ 795) }
-    ensures { Composed (listed names.now) steps.now result form.new }
+// The long form of steps.
+fn compose(names: &NameList<'_>, steps: &[Step]) -> Result<Form, Refusal>
+    requires { length steps.now ≤ 15 }
+    ensures { Composed (listed names.now) steps.now result }
 {
+    let mut form = Form::new();
     if steps.is_empty() {
-        return Ok(put(form, 0, b"/"));
+        put(&mut form, b"/");
+        return Ok(form);
     }
-    let mut at: usize = 0;
     for (i, step) in steps.iter().enumerate() {
-        let Some(end) = put_step(names, *step, form, at) else {
-            return Err(Ground::UnknownName.at(i));
-        };
-        at = end;
+        put_step(names, *step, &mut form).ok_or(Ground::UnknownName.at(i))?;
     }
-    Ok(at)
+    Ok(form)
 }
 
-// Writes a chain in its long form by a list of names, and answers the length.
+// Writes a chain in its long form by a list of names, and answers the length. The bytes are the caller's, so nothing is allocated.
 pub fn write_by(names: &NameList<'_>, chain: &Chain, out: &mut [u8]) -> Result<usize, Refusal>
     ensures { Writes (listed names.now) chain.now out.old result out.new }
 {
-    let mut form = [0; MAX_FORM];
-    let len = compose(names, chain.steps(), &mut form)?;
+    let form = compose(names, chain.steps())?;
+    let len = form.len();
     if len > out.len() {
         return Err(Ground::TooSmall.at(0));
     }
-    out[..len].copy_from_slice(&form[..len]);
+    out[..len].copy_from_slice(form.as_slice());
     Ok(len)
 }
 
@@ -85,8 +84,7 @@ pub fn write_by(names: &NameList<'_>, chain: &Chain, out: &mut [u8]) -> Result<u
 pub fn write(list: &[u8], chain: &Chain, out: &mut [u8]) -> Result<usize, Refusal>
     ensures { WritesListed list.now chain.now out.old result out.new }
 {
-    let mut names = NameList::empty();
-    names.load(list)?;
+    let names = NameList::new(list)?;
     write_by(&names, chain, out)
 }
 

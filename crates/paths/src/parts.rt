@@ -1,11 +1,11 @@
 // The parts of a path text, as they are written.
-#[derive(Clone, Copy)]
+#[derive(Clone, Copy, Debug)]
 pub enum Separator {
     Slash,
     Slashes,
 }
 
-#[derive(Clone, Copy)]
+#[derive(Clone, Copy, Debug)]
 pub enum Tested<'a> {
     Named(&'a [u8]),
     Star,
@@ -13,7 +13,7 @@ pub enum Tested<'a> {
     Nodes,
 }
 
-#[derive(Clone, Copy)]
+#[derive(Clone, Copy, Debug)]
 pub enum Written<'a> {
     Dot,
     Dots,

@@ -1,62 +1,43 @@
 // Cuts the parts of a path text off its front. What is left is the rest of the text; where no path goes on, it is the error.
-ghost use Rattle.std.specs.Prelude.{◌≡◌, false, ◌∷◌, length, if◌then◌else◌, MatchOption, MatchResult, nat_eq};
+ghost use Rattle.std.specs.Prelude.{◌≡◌, false, ◌∷◌, length, MatchOption, MatchResult, nat_eq};
+ghost use Rattle.std.specs.List.{prefix_len};
 ghost use Rattle.names.specs.Classes.{begins, goes};
 ghost use Rattle.grammar.specs.Texts.{separator_text};
 ghost use Rattle.grammar.specs.Scanner.{heads, kind_test};
 ghost use Rattle.paths.specs.Parts.{separator_of, maybe_test};
-ghost use Rattle.paths.specs.Cuts.{NameEnd, NameCut, NameTested, TestSplit, NameStepped, StepSplit, SeparatorCut};
+ghost use Rattle.paths.specs.Cuts.{NameCut, NameTested, TestSplit, NameStepped, StepSplit, SeparatorCut};
 
 use super::parts::{Separator, Tested, Written};
-use names::class;
+use names::{begins_name, continues_name};
 
-const TEXT: &[u8] = b"text";
-
-const NODE: &[u8] = b"node";
-
-// Whether the byte can stand at this place of a name.
-fn belongs(byte: u8, place: usize) -> bool
-    ensures { result ≡ (if nat_eq place 0 then begins byte else goes byte) }
-{
-    match class(byte) {
-        1 => true,
-        2 => place > 0,
-        _ => false,
-    }
-}
-
-// How long the name is that the text begins with; 0 if it begins with none.
+// How many bytes at the front of the text a name goes on with.
 fn name_len(text: &[u8]) -> usize
-    ensures { NameEnd text.now result }
+    ensures { result ≡ prefix_len goes text.now }
 {
-    for (len, byte) in text.iter().enumerate() {
-        if !belongs(*byte, len) {
-            return len;
-        }
-    }
-    text.len()
+    text.iter()
+        .take_while(|byte| continues_name(**byte))
+        .count()
 }
 
+// The name that the text begins with.
 fn split_name(text: &[u8]) -> Option<(&[u8], &[u8])>
     ensures { MatchOption result (heads begins text.now ≡ false) (λ p. NameCut text.now p.0.now p.1.now) }
 {
-    let len = name_len(text);
-    if len == 0 {
-        return None;
+    match text {
+        [first, ..] if begins_name(*first) => Some(text.split_at(name_len(text))),
+        _ => None,
     }
-    Some((&text[..len], &text[len..]))
 }
 
 // The test whose word stands before a parenthesis.
 fn kind_test<'a>(word: &[u8]) -> Option<Tested<'a>>
     ensures { maybe_test result ≡ kind_test word.now }
 {
-    if word == TEXT {
-        return Some(Tested::Texts);
+    match word {
+        b"text" => Some(Tested::Texts),
+        b"node" => Some(Tested::Nodes),
+        _ => None,
     }
-    if word == NODE {
-        return Some(Tested::Nodes);
-    }
-    None
 }
 
 impl Separator {
@@ -81,7 +62,7 @@ pub fn split_separator(text: &[u8]) -> Option<(Separator, &[u8])>
     }
 }
 
-// The text behind a closing parenthesis.
+// The text behind a closing parenthesis. Here and in the next two a mark is matched as a character: a rule of this reader.
 fn closed(text: &[u8]) -> Result<&[u8], &[u8]>
     ensures { MatchResult result (λ rest. text.now ≡ 41 ∷ rest.now) (λ s. (s.now ≡ text.now) × (heads (λ b. nat_eq b 41) text.now ≡ false)) }
 {

@@ -1,11 +1,8 @@
-use Rattle.std.proofs.Common.{sym, subst, inl, arith}
+use Rattle.std.proofs.Common.{sym, subst, arith}
 use Rattle.std.proofs.lemmas.Bool.Decides.{nat_tests}
 use Rattle.paths.specs.Cuts.{NameStuck}
-use Rattle.paths.proofs.Cutting.{name_plain, kind_cut, kind_stuck, name_broken, behind_one, heads_none}
+use Rattle.paths.proofs.Cutting.{kind_cut, kind_stuck, name_broken, behind_one}
 use Rattle.paths.proofs.split.test_of_name.Goals as goal
-
-pub returns-in_default : goal.returns-in_default
-returns-in_default c = name_plain _ _ (inl (heads_none _ c.args.text.now (grind (arith, nat_tests))))
 
 pub returns-in_err-rest-in-Some : goal.returns-in_err-rest-in-Some
 returns-in_err-rest-in-Some c =
