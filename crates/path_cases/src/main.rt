@@ -2,11 +2,11 @@
 #![tactic(auto)]
 
 use names::NameList;
-use paths::rewrite;
+use paths::{MAX_FORM, rewrite};
 use refusal::Refusal;
-use std::alloc::AllocError;
 use std::io;
 use std::io::{Read, Write};
+use thiserror::Error;
 
 // The names that the texts are read by; the last has 32 bytes.
 const NAMES: &[u8] =
@@ -15,75 +15,47 @@ const NAMES: &[u8] =
 // The input is not longer.
 const INPUT_BYTES: u64 = 65536;
 
-#[derive(Debug, Drop)]
+#[derive(Debug, Drop, Error)]
+#[error(transparent)]
 enum Failure {
-    Io(io::Error),
-    NoMemory,
-    Names,
-}
-
-impl From<io::Error> for Failure {
-    fn from(error: io::Error) -> Failure {
-        Failure::Io(error)
-    }
-}
-
-impl From<AllocError> for Failure {
-    fn from(_error: AllocError) -> Failure {
-        Failure::NoMemory
-    }
-}
-
-impl From<Refusal> for Failure {
-    fn from(_refusal: Refusal) -> Failure {
-        Failure::Names
-    }
+    Io(#[from] io::Error),
+    Names(#[from] Refusal),
 }
 
 fn main(rt: HostRuntime) -> Result<(), Failure> {
     let mut bytes = Vec::new(rt.alloc());
     rt.stdin().take(INPUT_BYTES).read_to_end(&mut bytes)?;
-    let mut names = NameList::empty();
-    names.load(NAMES)?;
+    let names = NameList::new(NAMES)?;
+    // Printing may fail between two texts, so they are counted as they are printed.
     let mut accepted: usize = 0;
     let mut refused: usize = 0;
-    let mut start: usize = 0;
-    for (i, byte) in bytes.iter().enumerate() {
-        if *byte != b'\n' {
-            continue;
-        }
-        let Some(text) = bytes.get(start..i) else {
+    for line in bytes.split_inclusive(|byte| *byte == b'\n') {
+        // A tail without a line end is no text.
+        let [text @ .., b'\n'] = line else {
             break;
         };
-        if show(&rt, &names, text)? {
-            accepted = accepted.saturating_add(1);
-        } else {
-            refused = refused.saturating_add(1);
+        // Lent to the writer, which answers how many of the bytes are the form.
+        let mut form = [0; MAX_FORM];
+        match rewrite(&names, text, &mut form) {
+            Ok(len) => {
+                print(&rt, &form[..len])?;
+                accepted = accepted.saturating_add(1);
+            }
+            Err(Refusal { ground, place }) => {
+                let number = ground.number();
+                println!(rt; "{number} {place}")?;
+                refused = refused.saturating_add(1);
+            }
         }
-        start = i + 1;
     }
     let texts = accepted.saturating_add(refused);
     println!(rt; "{texts} texts: {accepted} accepted, {refused} refused.")?;
     Ok(())
 }
 
-// Prints what the text is read as, and answers whether it is accepted.
-fn show(rt: &HostRuntime, names: &NameList<'_>, text: &[u8]) -> Result<bool, Failure> {
-    let mut form = [0; 1024];
-    match rewrite(names, text, &mut form) {
-        Ok(len) => {
-            let mut out = rt.stdout();
-            if let Some(line) = form.get(..len) {
-                out.write_all(line)?;
-            }
-            out.write_all(b"\n")?;
-            Ok(true)
-        }
-        Err(refusal) => {
-            let number = refusal.ground.number();
-            let place = refusal.place;
-            println!(rt; "{number} {place}")?;
-            Ok(false)
-        }
-    }
+// Prints a long form as a line. `batch path` does the same in two lines; programs share no crate of their own.
+fn print(rt: &HostRuntime, form: &[u8]) -> io::Result<()> {
+    let mut out = rt.stdout();
+    out.write_all(form)?;
+    out.write_all(b"\n")
 }
