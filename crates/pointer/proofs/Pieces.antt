@@ -1,16 +1,24 @@
 -- The pieces that are written, put together, are the two lines.
-use Rattle.std.proofs.Common.{◌≡◌, ℕ, ◌+◌, ◌-◌, Bool, ltb, List, ◌++◌, length, take, drop, codes, sym, ap, ◌∙◌, append_assoc}
-use Rattle.pointer.specs.Pointed.{columns, blanks, dots, start_of, column_at, pointed}
+use Rattle.std.proofs.Common.{◌≡◌, refl, ℕ, zero, suc, ◌+◌, ◌-◌, ◌^◌, false, ◌==◌, List, [], ◌∷◌, ◌++◌, codes, sym, ap, ◌∙◌, append_assoc, arith}
+use Rattle.std.specs.List.{repeat}
+use Rattle.std.specs.Fmt.{format_spec, styled_text, padded, char_count, take_chars}
+use Rattle.std.proofs.lemmas.Str.{encode_ascii}
+use Rattle.std.proofs.lemmas.Bool.Decides.{nat_tests}
+use Rattle.pointer.specs.Pointed.{blanks}
 
--- what is written, piece by piece
-abbrev written : Bool → List ℕ → Bool → ℕ → List ℕ
-written before line after n = dots before ++ (columns line ++ (dots after ++ (codes "\n" ++ (blanks n ++ codes "^"))))
+-- `outline` has the same three lines; the two crates share none
+blanks_repeated : (n : ℕ) → repeat n (32 ∷ []) ≡ blanks n
+blanks_repeated zero = refl
+blanks_repeated (suc n) = ap (λ l. 32 ∷ l) (blanks_repeated n)
 
-joined : (a b c d : List ℕ) → a ++ (b ++ (c ++ d)) ≡ (a ++ (b ++ c)) ++ d
+-- a caret in the last of so many columns
+pub caret_last : (n : ℕ) → styled_text (format_spec 32 3 0 (n + 1) (2 ^ 64 - 1)) (codes "^") ≡ blanks n ++ codes "^"
+unfolding padded char_count take_chars
+caret_last n =
+    let some : (n + 1 == 0) ≡ false = grind (arith, nat_tests) in
+    let before : n + 1 - 1 ≡ n = omega arith in
+    let behind : n - n ≡ 0 = omega arith in
+    rw (encode_ascii 32 (omega arith), some, before, behind, blanks_repeated n) refl
+
+pub joined : (a b c d : List ℕ) → a ++ (b ++ (c ++ d)) ≡ (a ++ (b ++ c)) ++ d
 joined a b c d = ap (λ t. a ++ t) (sym (append_assoc b c d)) ∙ sym (append_assoc a (b ++ c) d)
-
-pub pieces : (text : List ℕ) (place start : ℕ) (rest line : List ℕ) (d : ℕ) → start ≡ start_of place → rest ≡ drop (start_of place) text → line ≡ take 76 (drop (start_of place) text) → d ≡ length (dots (ltb 0 start)) → written (ltb 0 start) line (ltb 76 (length rest)) (d + (place - start)) ≡ pointed text place
-pieces text place start rest line d s r l e =
-    let before = e ∙ ap (λ n. length (dots (ltb 0 n))) s in
-    let same : written (ltb 0 start) line (ltb 76 (length rest)) (d + (place - start)) ≡ written (ltb 0 (start_of place)) (take 76 (drop (start_of place) text)) (ltb 76 (length (drop (start_of place) text))) (column_at place) = λ k. written (ltb 0 (s k)) (l k) (ltb 76 (length (r k))) (before k + (place - s k)) in
-    same ∙ joined (dots (ltb 0 (start_of place))) (columns (take 76 (drop (start_of place) text))) (dots (ltb 76 (length (drop (start_of place) text)))) _

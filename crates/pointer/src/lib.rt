@@ -1,8 +1,8 @@
 // A place in a text, shown to people as two lines: the text, and below it a caret under the byte at the place.
 #![tactic(auto)]
 
-ghost use Rattle.std.specs.Prelude.{◌≡◌, length, take, drop, Some};
-ghost use Rattle.pointer.specs.Pointed.{column_of, columns, blanks, dots, pointed, CaretBelow, LinesFit};
+ghost use Rattle.std.specs.Prelude.{◌≡◌, take, drop, Some};
+ghost use Rattle.pointer.specs.Pointed.{column_of, columns, dots, pointed, CaretBelow, LinesFit};
 
 use std::fmt;
 
@@ -22,14 +22,16 @@ pub struct Pointer<'a> {
 impl fmt::Display for Pointer<'_> {
     ghost output = { λ p. Some (pointed p.text.now p.place) };
 
+    #[tactic(auto, using(crate::proofs::Pieces::caret_last, crate::proofs::Pieces::joined))]
     fn fmt<W: fmt::Write>(&self, f: &mut fmt::Formatter<W>) -> fmt::Result {
         let start = self.place.saturating_sub(MOST_BEFORE);
         let rest = tail(self.text, start);
-        let before = Dots(start > 0);
+        let before = dots(start > 0);
         let line = Columns(front(rest, MOST_SHOWN));
-        let after = Dots(rest.len() > MOST_SHOWN);
-        let blanks = Blanks(before.len() + (self.place - start));
-        write!(f, "{before}{line}{after}\n{blanks}^")
+        let after = dots(rest.len() > MOST_SHOWN);
+        // The caret stands in the last of so many columns.
+        let width = before.len() + (self.place - start) + 1;
+        write!(f, "{before}{line}{after}\n{:>width$}", "^")
     }
 }
 
@@ -37,17 +39,24 @@ impl fmt::Display for Pointer<'_> {
 fn tail(text: &[u8], place: usize) -> &[u8]
     ensures { result.now ≡ drop place text.now }
 {
-    &text[place.min(text.len())..]
+    text.get(place..).unwrap_or_default()
 }
 
 // So many bytes of a text, from its first on, or all.
 fn front(text: &[u8], most: usize) -> &[u8]
     ensures { result.now ≡ take most text.now }
 {
-    &text[..most.min(text.len())]
+    text.get(..most).unwrap_or(text)
 }
 
-// Bytes, one column each.
+// Three dots, where bytes are cut off.
+fn dots(cut: bool) -> &'static str
+    ensures { result.now ≡ dots cut }
+{
+    if cut { "..." } else { "" }
+}
+
+// Bytes, one column each; the library's escapes of a byte take several.
 #[derive(Clone, Copy)]
 struct Columns<'a>(&'a [u8]);
 
@@ -69,41 +78,6 @@ fn column(byte: u8) -> char
     match byte {
         b' '..=b'~' => char::from(byte),
         _ => '?',
-    }
-}
-
-// As many blanks.
-#[derive(Clone, Copy)]
-struct Blanks(usize);
-
-impl fmt::Display for Blanks {
-    ghost output = { λ b. Some (blanks b.0) };
-
-    fn fmt<W: fmt::Write>(&self, f: &mut fmt::Formatter<W>) -> fmt::Result {
-        for _column in 0..self.0 {
-            f.write_str(" ")?;
-        }
-        Ok(())
-    }
-}
-
-// Three dots, where bytes are cut off.
-#[derive(Clone, Copy)]
-struct Dots(bool);
-
-impl fmt::Display for Dots {
-    ghost output = { λ d. Some (dots d.0) };
-
-    fn fmt<W: fmt::Write>(&self, f: &mut fmt::Formatter<W>) -> fmt::Result {
-        if self.0 { write!(f, "...") } else { Ok(()) }
-    }
-}
-
-impl Dots {
-    fn len(self) -> usize
-        ensures { result ≡ length (dots self.0) }
-    {
-        if self.0 { 3 } else { 0 }
     }
 }
 
