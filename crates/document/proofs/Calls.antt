@@ -1,16 +1,17 @@
 -- A call pushes a node, shuts the innermost one or is refused; so it leaves a next state, and every document that calls leave is well formed.
-use Rattle.std.proofs.Common.{◌≡◌, ℕ, ◌<◌, ◌≤◌, Bool, true, false, cond, ◌&&◌, eqb, ltb, leb, List, [], ◌∷◌, ◌++◌, length, set, Some, None, Option, sym, refl, ap, ◌∙◌, inl, inr, arith}
+use Rattle.std.proofs.Common.{◌≡◌, ℕ, ◌<◌, ◌≤◌, Bool, true, false, cond, ◌&&◌, eqb, leb, List, [], ◌∷◌, ◌++◌, length, set, Some, None, Option, sym, refl, ap, ◌∙◌, inl, inr, arith}
 use Rattle.std.specs.List.{AllByRecursion as All}
-use Rattle.std.proofs.lemmas.Bool.{not-false, ltb-false, leb-false, eqb-true, eqb-false, cases_lt, and_cases, or_parts}
+use Rattle.std.proofs.lemmas.Bool.{leb-false, eqb-false, or_parts}
+use Rattle.std.proofs.lemmas.Bool.Decides.{nat_tests}
 use Rattle.std.proofs.lemmas.List.{length_push, get_or_push, get_or_append_left, get_or-set_same, get_or-set_other, length-set}
 use Rattle.document.specs.declared.Kind.TheVariants.{Element}
 use Rattle.document.specs.declared.Node.{Node}
 use Rattle.document.specs.declared.Call.{Call}
 use Rattle.refusal.specs.declared.Ground.{Ground}
-use Rattle.document.specs.Document.{open_mark, nowhere, node_at, name_of, end_of, is_open, closed, innermost, closed_count, level_of}
-use Rattle.document.specs.Calls.{unfit, ended, early, misnamed, adds, deep, other_name, mismatched, grounds, first_of, refused, element, text, with_end, accepted, unless, after, Grown, blank, more, run}
+use Rattle.document.specs.Document.{nowhere, node_at, name_of, innermost, closed_count, level_of}
+use Rattle.document.specs.Calls.{unfit, ended, early, misnamed, adds, deep, mismatched, grounds, first_of, refused, element, text, with_end, accepted, after, Grown, blank, more, run}
 use Rattle.document.specs.Laws.{WellFormed, GrownWell, Next, CallsNext, RunsStable}
-use Rattle.document.proofs.Tests.{impossible}
+use Rattle.document.proofs.Tests.{none_or_some}
 use Rattle.document.proofs.WellFormed.{inner, no_inner, blank_well}
 use Rattle.document.proofs.Stability.{stable_same, stable_trans, next_same}
 use Rattle.document.proofs.Pushing.{Fresh, Pushed, push_next}
@@ -21,7 +22,7 @@ abbrev Fails : Bool × Ground → Type 0
 Fails t = t.0 ≡ false
 
 none_first : (b : Bool) (g : Ground) (o : Option Ground) → cond b (Some g) o ≡ None → (b ≡ false) × (o ≡ None)
-none_first true g o e = impossible (cc)
+none_first true g o e = cc
 none_first false g o e = (refl, e)
 
 all_fail : (ts : List (Bool × Ground)) → first_of ts ≡ None → All Fails ts
@@ -52,24 +53,12 @@ passed room ns c e =
       matched = t.1.1.1.1.1.1.0;
     }
 
--- what a call makes of a document
-pub data Moved (ns : List Node) : List Node → Type 0 where
-  refuses : Moved ns ns
-  pushes : {new : List Node} (x : Node) → Pushed ns new x → Moved ns new
-  shuts : {new : List Node} (p : ℕ) → Shut ns new p → Moved ns new
-
 small_room : (room : ℕ) → unfit room ≡ false → room ≤ 4096
-small_room room e = ltb-false 4096 room (or_parts (eqb room 0) (ltb 4096 room) e).1
+small_room room e = grind (arith, nat_tests)
 
 -- where the document has not ended, some node is open unless none is there
 none_there : (ns : List Node) → ended ns ≡ false → innermost ns ≡ None → length ns ≡ 0
-none_there ns g e = elim (cases_lt 0 (length ns)) [
-  | inr l ↦ omega arith
-  | inl l ↦ absurd (no_inner ns e 0 l (eqb-true (end_of ns 0) open_mark (elim (and_cases (ltb 0 (length ns)) (closed ns 0) g) [
-    | inl h ↦ absurd (omega (arith, ltb-false 0 (length ns) h))
-    | inr h ↦ not-false (is_open (node_at ns 0)) h
-  ])))
-]
+none_there ns g e = let never = no_inner ns e 0 in grind (arith, nat_tests)
 
 pushed : (ns : List Node) (x : Node) → x.parent ≡ innermost ns → Fresh ns x → ended ns ≡ false
     → (length ns ≡ 0 → x.kind ≡ Element) → length ns < 4096 → deep ns (innermost ns) ≡ false → Pushed ns (ns ++ x ∷ []) x
@@ -118,44 +107,30 @@ module _ (room : ℕ) (ns : List Node) where
       t.shallow
 
   pub close_open : (name : ℕ) → refused room ns (call.Close name) ≡ None → (p : ℕ) × (innermost ns ≡ Some p)
-  close_open name e = go (innermost ns) refl
-    where
-      t : Passed room ns (call.Close name)
-      t = passed room ns (call.Close name) e
-
-      go : (o : Option ℕ) → innermost ns ≡ o → (p : ℕ) × (innermost ns ≡ Some p)
-      go None i = absurd (eqb-false (length ns) 0 t.begun (none_there ns t.going i))
-      go (Some p) i = (p, i)
+  close_open name e =
+      let t = passed room ns (call.Close name) e in
+      elim (none_or_some (innermost ns)) [ inl i ↦ absurd (eqb-false (length ns) 0 t.begun (none_there ns t.going i)) | inr p ↦ p ]
 
   pub close_named : (name p : ℕ) → refused room ns (call.Close name) ≡ None → innermost ns ≡ Some p → name_of ns p ≡ name
   close_named name p e i =
-      let m : other_name ns (Some p) name ≡ false = ap (λ (o : Option ℕ). other_name ns o name) (sym i) ∙ (passed room ns (call.Close name) e).matched in
-      eqb-true (name_of ns p) name (not-false (eqb (name_of ns p) name) m)
+      let m = rw i at (passed room ns (call.Close name) e).matched in
+      grind (arith, nat_tests)
 
   pub close_shut : (name p : ℕ) → innermost ns ≡ Some p → Shut ns (accepted ns (call.Close name)) p
   close_shut name p i = rw i (shut ns p i)
 
-accepted_moves : (room : ℕ) (ns : List Node) (c : Call) → refused room ns c ≡ None → Moved ns (accepted ns c)
-accepted_moves room ns (call.Open name) e = pushes (element (innermost ns) name) (open_pushed room ns name e)
-accepted_moves room ns call.Text e = pushes (text (innermost ns) (closed_count ns)) (text_pushed room ns e)
-accepted_moves room ns (call.Close name) e =
+accepted_next : (room : ℕ) (ns : List Node) (c : Call) → WellFormed ns → refused room ns c ≡ None → Next ns (accepted ns c)
+accepted_next room ns (call.Open name) w e = push_next ns (accepted ns (call.Open name)) (element (innermost ns) name) w (open_pushed room ns name e)
+accepted_next room ns call.Text w e = push_next ns (accepted ns call.Text) (text (innermost ns) (closed_count ns)) w (text_pushed room ns e)
+accepted_next room ns (call.Close name) w e =
     let p = close_open room ns name e in
-    shuts p.0 (close_shut room ns name p.0 p.1)
-
-pub moves : (room : ℕ) (ns : List Node) (c : Call) → Moved ns (after room ns c)
-moves room ns c = go (refused room ns c) refl
-  where
-    go : (o : Option Ground) → refused room ns c ≡ o → Moved ns (unless o (accepted ns c) ns)
-    go None e = accepted_moves room ns c e
-    go (Some g) e = refuses
-
-pub moved_next : {ns new : List Node} → WellFormed ns → Moved ns new → Next ns new
-moved_next {ns} w refuses = next_same ns w
-moved_next {ns} {new} w (pushes x s) = push_next ns new x w s
-moved_next {ns} {new} w (shuts p s) = shut_next ns new p w s
+    shut_next ns (accepted ns (call.Close name)) p.0 w (close_shut room ns name p.0 p.1)
 
 pub calls_next : CallsNext
-calls_next room ns c w = moved_next w (moves room ns c)
+calls_next room ns c w = elim (none_or_some (refused room ns c)) [
+  | inl e ↦ rw e (accepted_next room ns c w e)
+  | inr g ↦ rw g.1 (next_same ns w)
+]
 
 pub grown_well : GrownWell
 grown_well ns g = go g

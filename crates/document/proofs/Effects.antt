@@ -1,14 +1,14 @@
 -- What a call answers, and the counts and levels that it leaves.
-use Rattle.std.proofs.Common.{◌≡◌, ℕ, suc, ◌+◌, ◌≤◌, false, List, length, Some, None, Ok, Err, Option, sym, refl, ap, ◌∙◌, arith}
+use Rattle.std.proofs.Common.{◌≡◌, ℕ, suc, ◌+◌, ◌≤◌, List, length, Some, None, Ok, Err, sym, ap, ◌∙◌, inl, inr, arith}
 use Rattle.std.proofs.lemmas.Bool.{ne_eqb}
 use Rattle.document.specs.declared.Node.{Node}
 use Rattle.document.specs.declared.Call.{Call}
 use Rattle.refusal.specs.declared.Ground.{Ground}
 use Rattle.refusal.specs.declared.Refusal.{Refusal}
-use Rattle.document.specs.Document.{open_mark, parent_of, is_open, innermost, closed_count, level_of}
-use Rattle.document.specs.Calls.{refused, or_zero, target, verdict, answered, element, text, accepted, unless, after}
+use Rattle.document.specs.Document.{open_mark, parent_of, innermost, closed_count, level_of}
+use Rattle.document.specs.Calls.{refused, or_zero, target, answered, element, text, accepted, after}
 use Rattle.document.specs.Laws.{WellFormed, Counts, Leaves, CallsEffect}
-use Rattle.document.proofs.Tests.{impossible}
+use Rattle.document.proofs.Tests.{none_or_some}
 use Rattle.document.proofs.WellFormed.{inner, closed_few}
 use Rattle.document.proofs.Calls.{open_pushed, text_pushed, close_open, close_named, close_shut}
 use Rattle.document.specs.declared.Call.TheVariants as call
@@ -16,24 +16,19 @@ use Rattle.document.proofs.Pushing as pushing
 use Rattle.document.proofs.Shutting as shutting
 
 pub accepted_after : (room : ℕ) (ns : List Node) (c : Call) → refused room ns c ≡ None → after room ns c ≡ accepted ns c
-accepted_after room ns c e = ap (λ (o : Option Ground). unless o (accepted ns c) ns) e
+accepted_after room ns c e = rw e
 
 pub refused_after : (room : ℕ) (ns : List Node) (c : Call) (g : Ground) → refused room ns c ≡ Some g → after room ns c ≡ ns
-refused_after room ns c g e = ap (λ (o : Option Ground). unless o (accepted ns c) ns) e
+refused_after room ns c g e = rw e
 
 pub answered_ok : (room : ℕ) (ns : List Node) (c : Call) (n : ℕ) → answered room ns c ≡ Ok n → (refused room ns c ≡ None) × (target ns c ≡ n)
-answered_ok room ns c n a = go (refused room ns c) refl a
-  where
-    go : (o : Option Ground) → refused room ns c ≡ o → verdict o (target ns c) ≡ Ok n → (refused room ns c ≡ None) × (target ns c ≡ n)
-    go None e b = (e, cc)
-    go (Some g) e b = impossible (cc)
+answered_ok room ns c n a = elim (none_or_some (refused room ns c)) [
+  | inl e ↦ let b = rw e at a in (e, cc)
+  | inr g ↦ let b = rw g.1 at a in cc
+]
 
 pub answered_err : (room : ℕ) (ns : List Node) (c : Call) (r : Refusal) → answered room ns c ≡ Err r → (g : Ground) × (refused room ns c ≡ Some g)
-answered_err room ns c r a = go (refused room ns c) refl a
-  where
-    go : (o : Option Ground) → refused room ns c ≡ o → verdict o (target ns c) ≡ Err r → (g : Ground) × (refused room ns c ≡ Some g)
-    go None e b = impossible (cc)
-    go (Some g) e b = (g, e)
+answered_err room ns c r a = elim (none_or_some (refused room ns c)) [ inl e ↦ let b = rw e at a in cc | inr g ↦ g ]
 
 module _ (room : ℕ) (ns : List Node) (w : WellFormed ns) where
   pub open_counts : (name : ℕ) → refused room ns (call.Open name) ≡ None
@@ -51,7 +46,7 @@ module _ (room : ℕ) (ns : List Node) (w : WellFormed ns) where
   text_counts e =
       let x = text (innermost ns) (closed_count ns) in
       let s = text_pushed room ns e in
-      let t : is_open x ≡ false = ne_eqb (closed_count ns) open_mark (λ o. omega (arith, closed_few ns, w.bounded)) in
+      let t = ne_eqb (closed_count ns) open_mark (λ o. omega (arith, closed_few ns, w.bounded)) in
       record {
         node_count = s.longer;
         end_count = pushing.count_new ns (accepted ns call.Text) x w s ∙ rw t;

@@ -6,6 +6,7 @@ pub mod Stability
 pub mod Pushing
 pub mod Shutting
 pub mod Calls
+pub mod Grown
 pub mod Laws
 pub mod Effects
 pub mod Lawful

@@ -1,5 +1,6 @@
 -- The calls that build a document: what each answers and what document it leaves.
 use Rattle.std.specs.Prelude.{◌≡◌, ℕ, Bool, true, false, cond, not, ◌&&◌, ◌||◌, List, [], ◌∷◌, ◌++◌, length, Some, None, Ok, Err, Option, Result, ◌==◌, nat_le, nat_lt, slice_set}
+use Rattle.std.specs.Option.{ok_or}
 use Rattle.document.specs.declared.Kind.TheVariants.{Element, Text}
 use Rattle.document.specs.declared.Node.{Node}
 use Rattle.document.specs.declared.Call.{Call}
@@ -72,6 +73,10 @@ refused room ns c = first_of (grounds room ns c)
 abbrev pub idle : ℕ → Ground
 idle count = cond (count == 0) NotBegun Ended
 
+-- the innermost open element, or why a call that needs one is refused
+abbrev pub inner_element : ℕ → List Node → Result ℕ Refusal
+inner_element room ns = cond (unfit room) (Err (refusal BadCapacity 0)) (ok_or (innermost ns) (refusal (idle (length ns)) 0))
+
 -- the level of a node that begins now, or why none can: it would lie too deep, or there is no room
 abbrev pub next_level : ℕ → List Node → Result ℕ Refusal
 next_level room ns =
@@ -129,9 +134,8 @@ abbrev pub run : ℕ → List Node → List Call → List Node
 run room ns [] = ns
 run room ns (c ∷ cs) = run room (after room ns c) cs
 
--- A call on a value of some implementation: its answer r, the nodes that it leaves, and the value is sound again and has the same room.
-pub record Called {S : Type 0} (nodes : S → List Node) (sound : S → Type 0) (room : S → ℕ) (was : S) (c : Call) (r : Result ℕ Refusal) (is : S) : Type 0 where
+-- A call on a value of some implementation: its answer r, the nodes that it leaves, and it has the same room.
+pub record Called {S : Type 0} (nodes : S → List Node) (room : S → ℕ) (was : S) (c : Call) (r : Result ℕ Refusal) (is : S) : Type 0 where
   pub answer : r ≡ answered (room was) (nodes was) c
   pub leaves : nodes is ≡ after (room was) (nodes was) c
   pub same_room : room is ≡ room was
-  pub still_sound : sound is

@@ -137,8 +137,8 @@ CallsEffect = (room : ℕ) (ns : List Node) (c : Call) → WellFormed ns → Eff
 abbrev pub GroundsOrdered : Type 0
 GroundsOrdered = (room : ℕ) (ns : List Node) (c : Call) → map (λ t. number_of t.1) (grounds room ns c) ≡ 1 ∷ 2 ∷ 3 ∷ 4 ∷ 5 ∷ 6 ∷ 7 ∷ []
 
--- A call on a sound value, and what follows from it: a next state, and the laws.
-pub record Performed {S : Type 0} (nodes : S → List Node) (sound : S → Type 0) (room : S → ℕ) (was : S) (c : Call) (r : Result ℕ Refusal) (is : S) : Type 0 where
-  pub called : Called nodes sound room was c r is
+-- A call on a value, and what follows from it: a next state, and the laws.
+pub record Performed {S : Type 0} (nodes : S → List Node) (room : S → ℕ) (was : S) (c : Call) (r : Result ℕ Refusal) (is : S) : Type 0 where
+  pub called : Called nodes room was c r is
   pub next : Next (nodes was) (nodes is)
   pub laws : Laws (nodes is)

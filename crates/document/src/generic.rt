@@ -6,9 +6,9 @@ ghost use Rattle.document.specs.Laws.{Performed};
 use super::{Call, Growing, Readable};
 use refusal::Refusal;
 
-// Makes one call.
+// Makes one call. A call is read from bytes, so it is a value of an enum and no closure.
 pub fn perform<D: Growing>(document: &mut D, call: Call) -> Result<u32, Refusal>
-    ensures { D.Readable.sound document.old → Performed D.Readable.nodes D.Readable.sound D.Growing.room document.old call result document.new }
+    ensures { Performed D.Readable.nodes D.Growing.room document.old call result document.new }
 {
     match call {
         Call::Open(name) => document.open(name),
@@ -19,13 +19,10 @@ pub fn perform<D: Growing>(document: &mut D, call: Call) -> Result<u32, Refusal>
 
 // How many elements are open: the innermost one and its ancestors.
 pub fn open_elements<D: Readable>(document: &D) -> u32
-    ensures { D.Readable.sound document.now → result ≡ open_count (D.Readable.nodes document.now) }
+    ensures { result ≡ open_count (D.Readable.nodes document.now) }
 {
     let Some(innermost) = document.innermost() else {
         return 0;
     };
-    match document.level(innermost) {
-        Ok(level) => u32::from(level) + 1,
-        Err(_) => 0,
-    }
+    u32::from(document.level(innermost).unwrap()) + 1
 }

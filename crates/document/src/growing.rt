@@ -12,13 +12,13 @@ pub trait Growing: Readable {
 
     // Adds an element under the innermost open one, and answers its number.
     fn open(&mut self, name: u16) -> Result<u32, Refusal>
-        ensures { Self.Readable.sound self.old → Called Self.Readable.nodes Self.Readable.sound room self.old (Open name) result self.new };
+        ensures { Called Self.Readable.nodes room self.old (Open name) result self.new };
 
     // Adds a text in the same way.
     fn text(&mut self) -> Result<u32, Refusal>
-        ensures { Self.Readable.sound self.old → Called Self.Readable.nodes Self.Readable.sound room self.old Text result self.new };
+        ensures { Called Self.Readable.nodes room self.old Text result self.new };
 
     // Gives the innermost open element the next end number, and answers its node number.
     fn close(&mut self, name: u16) -> Result<u32, Refusal>
-        ensures { Self.Readable.sound self.old → Called Self.Readable.nodes Self.Readable.sound room self.old (Close name) result self.new };
+        ensures { Called Self.Readable.nodes room self.old (Close name) result self.new };
 }

@@ -20,9 +20,12 @@ pub enum Kind {
 // A node: its parent, or none for node 0; its name number, 0 for a text; how many nodes had ended before it, or the mark of an open one.
 #[derive(Clone, Copy, PartialEq, Eq, Debug)]
 pub struct Node {
+    // Nodes lie in lent memory, so a parent is its number and no pointer.
     pub parent: Option<u32>,
     pub kind: Kind,
+    // Beside the kind, and 0 for a text: the definitions, the laws and the question `name` speak of it so.
     pub name: u16,
+    // No option: the ends of open nodes are compared too, and `None` would come before every end.
     pub end: u32,
 }
 

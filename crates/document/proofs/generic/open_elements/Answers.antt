@@ -4,13 +4,12 @@ use Rattle.document.proofs.Questions.{none_open, some_open, open_asked}
 use Rattle.document.proofs.generic.open_elements.Goals as goal
 
 pub returns-in_default : goal.returns-in_default
-returns-in_default g c = λ s. sym (none_open _ (grown_well _ (g.D.Readable.grown _ s)) _ (c.innermost.ensures s) c.in_default.is)
+returns-in_default g c = sym (none_open _ (grown_well _ (g.met.D.Readable.grown _)) _ c.innermost.ensures c.in_default.is)
 
-pub returns-in-Ok : goal.returns-in-Ok
-returns-in-Ok g c = λ s.
-    let found = some_open _ (grown_well _ (g.D.Readable.grown _ s)) _ (c.innermost.ensures s) c.in-Some.innermost _ c.in-Some.is _ (c.level.ensures s) c.in-Ok.is in
+pub unwrap-requires : goal.unwrap-requires
+unwrap-requires g c = open_asked _ (grown_well _ (g.met.D.Readable.grown _)) _ c.innermost.ensures c.in-Some.innermost c.in-Some.is _ c.level.ensures
+
+pub returns : goal.returns
+returns g c =
+    let found = some_open _ (grown_well _ (g.met.D.Readable.grown _)) _ c.innermost.ensures c.in-Some.innermost _ c.in-Some.is _ c.level.ensures c.unwrap.ensures in
     omega (arith, c.from.ensures)
-
-pub returns-in-Err : goal.returns-in-Err
-returns-in-Err g c = λ s.
-    open_asked _ (grown_well _ (g.D.Readable.grown _ s)) _ (c.innermost.ensures s) c.in-Some.innermost c.in-Some.is _ (c.level.ensures s) _ c.in-Err.is
