@@ -1,12 +1,10 @@
--- The nodes that a table's records stand for, what a table keeps, and which record a call writes.
+-- The nodes that records stand for, what a table keeps, and which record a call writes.
 use Rattle.std.specs.Prelude.{◌≡◌, ℕ, ◌<◌, ◌≤◌, List, map, length, take, Ok, Err, Option, Result, slice_index_or, slice_set}
 use Rattle.refusal.specs.declared.Refusal.{Refusal}
 use Rattle.document.specs.declared.Node.{Node}
-use Rattle.document.specs.declared.Call.{Call}
 use Rattle.document.specs.Document.{nowhere, node_at, level_of, innermost}
-use Rattle.document.specs.Calls.{after, Grown}
+use Rattle.document.specs.Calls.{Grown}
 use Rattle.record_table.specs.declared.table.Record.{Record}
-use Rattle.record_table.specs.declared.table.RecordTable.{RecordTable}
 
 -- what stands past the last record
 abbrev pub blank : Record
@@ -19,7 +17,7 @@ nodes_of rs used = map (λ r. r.node) (take used rs)
 -- the records in use are those of a document that calls leave, and its innermost open element is kept beside them
 pub record Sound (rs : List Record) (used : ℕ) (inner : Option ℕ) : Type 0 where
   pub fits : used ≤ length rs
-  pub grown : Grown (nodes_of rs used)
+  pub grown : ∥ Grown (nodes_of rs used) ∥₁
   pub levels : (n : ℕ) → n < used → (slice_index_or rs n blank).level ≡ level_of (nodes_of rs used) n
   pub inner_is : inner ≡ innermost (nodes_of rs used)
 
@@ -31,16 +29,3 @@ record_of ns n = record { node = node_at ns n; level = level_of ns n }
 abbrev pub written : List Record → Result ℕ Refusal → List Node → List Record
 written rs (Ok n) new = slice_set rs n (record_of new n)
 written rs (Err e) new = rs
-
--- the same of a table
-abbrev pub table_nodes : RecordTable → List Node
-table_nodes t = nodes_of t.records.now t.used
-
-abbrev pub table_sound : RecordTable → Type 0
-table_sound t = Sound t.records.now t.used t.innermost
-
-abbrev pub table_room : RecordTable → ℕ
-table_room t = length t.records.now
-
-abbrev pub table_written : RecordTable → Call → Result ℕ Refusal → List Record
-table_written t c r = written t.records.now r (after (table_room t) (table_nodes t) c)

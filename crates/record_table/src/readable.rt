@@ -1,5 +1,6 @@
 // What a table answers: each question is one look at a record.
-ghost use Rattle.record_table.specs.Records.{table_nodes, table_sound};
+ghost use Rattle.record_table.specs.Tables.{table_nodes};
+ghost use Rattle.growth.proofs.Regrown.{regrown};
 
 use super::table::RecordTable;
 use document::{Kind, Readable};
@@ -8,32 +9,30 @@ use refusal::Refusal;
 impl<'a> Readable for RecordTable<'a> {
     ghost nodes = { table_nodes };
 
-    ghost sound = { table_sound };
-
-    ghost grown = { λ _ k. k.grown };
+    ghost grown = { λ s. regrown (table_nodes s) s.sound.grown };
 
     fn count(&self) -> u32 {
         self.used
     }
 
     fn parent(&self, node: u32) -> Result<Option<u32>, Refusal> {
-        Ok(self.record(node)?.node.parent)
+        self.record(node).map(|record| record.node.parent)
     }
 
     fn kind(&self, node: u32) -> Result<Kind, Refusal> {
-        Ok(self.record(node)?.node.kind)
+        self.record(node).map(|record| record.node.kind)
     }
 
     fn name(&self, node: u32) -> Result<u16, Refusal> {
-        Ok(self.record(node)?.node.name)
+        self.record(node).map(|record| record.node.name)
     }
 
     fn level(&self, node: u32) -> Result<u8, Refusal> {
-        Ok(self.record(node)?.level)
+        self.record(node).map(|record| record.level)
     }
 
     fn end(&self, node: u32) -> Result<u32, Refusal> {
-        Ok(self.record(node)?.node.end)
+        self.record(node).map(|record| record.node.end)
     }
 
     fn innermost(&self) -> Option<u32> {

@@ -1,61 +1,39 @@
-use Rattle.std.proofs.Common.{sym, refl, ◌∙◌, arith}
+use Rattle.std.proofs.Common.{◌+◌, ◌-◌, refl, arith}
 use Rattle.refusal.specs.declared.Ground.TheVariants.{OtherName}
-use Rattle.document.specs.declared.Call.TheVariants.{Close}
-use Rattle.document.proofs.Questions.{asked_ok}
-use Rattle.record_table.specs.Records.{record_of, table_nodes, table_sound}
-use Rattle.record_table.proofs.Steps.{called_by, memory_by, refused_at, unfit_at, idle_at, has_record, other_named, named, shut}
+use Rattle.record_table.proofs.Steps.{called_by, memory_by, refused_at, needs_element, open_at, within, level_counts, other_named, shut}
 use Rattle.record_table.proofs.growing.RecordTableGrowing.close.Goals as goal
 
-pub returns-then-unfit : goal.returns-then-unfit
-returns-then-unfit c = record {
-  called = λ s. unfit_at c.args.self.now (Close c.args.name) s c.if-unfit.ensures _ c.at.ensures;
-  memory = λ s. refl;
-  lent = refl;
-}
+pub returns-in_err-innermost-clause-called : goal.returns-in_err-innermost-clause-called
+returns-in_err-innermost-clause-called c = needs_element _ _ _ c.from_residual.ensures.1 refl c.inner_element.ensures c.in_err-innermost.was
 
-pub returns-in_default : goal.returns-in_default
-returns-in_default c =
+pub bounds-self-innermost : goal.bounds-self-innermost
+bounds-self-innermost c =
+    let s = c.args.self.now.sound in
+    within _ _ _ s _ (open_at _ _ _ s _ c.inner_element.ensures c.in_ok-innermost.was)
+
+pub returns-then-record-name-clause-called : goal.returns-then-record-name-clause-called
+returns-then-record-name-clause-called c =
     let t = c.args.self.now in
-    record {
-      called = λ s. idle_at t (Close c.args.name) s (sym c.if-unfit.ensures) refl c.in_default.is _ c.idle.ensures;
-      memory = λ s. refl;
-      lent = refl;
-    }
+    refused_at t _ _ OtherName (other_named _ _ _ t.sound _ c.inner_element.ensures c.in_ok-innermost.was c.args.name c.if-record-name.true) c.at.ensures
 
-pub returns-in_err-record : goal.returns-in_err-record
-returns-in_err-record c = record {
-  called = λ s. has_record _ _ _ s c.in-Some.innermost c.in-Some.is _ (sym (c.record.ensures.value s) ∙ c.in_err-record.was);
-  memory = λ s. has_record _ _ _ s c.in-Some.innermost c.in-Some.is _ (sym (c.record.ensures.value s) ∙ c.in_err-record.was);
-  lent = refl;
+pub overflow_sub-end : goal.overflow_sub-end
+overflow_sub-end c =
+    let s = c.args.self.now.sound in
+    omega (arith, level_counts _ _ _ s _ (open_at _ _ _ s _ c.inner_element.ensures c.in_ok-innermost.was), c.from.ensures)
+
+pub bounds-self-innermost-2 : goal.bounds-self-innermost-2
+bounds-self-innermost-2 c =
+    let s = c.args.self.now.sound in
+    within _ _ _ s _ (open_at _ _ _ s _ c.inner_element.ensures c.in_ok-innermost.was)
+
+pub invariant_of-self : goal.invariant_of-self
+invariant_of-self c = record {
+  sound =
+      (shut _ _ _ c.args.self.now.sound _ c.inner_element.ensures c.in_ok-innermost.was c.args.name _ c.if-record-name.false (omega (arith, c.from.ensures))).sound;
 }
-
-pub returns-then-record-name : goal.returns-then-record-name
-returns-then-record-name c =
-    let t = c.args.self.now in
-    let p = c.in-Some.innermost in
-    let r = c.in_ok-record.record in
-    record {
-      called = λ s.
-          let found = asked_ok (table_nodes t) p (record_of (table_nodes t)) r (sym (c.record.ensures.value s) ∙ c.in_ok-record.was) in
-          refused_at t (Close c.args.name) s _ OtherName
-          (other_named t s p r c.args.name c.in-Some.is found.1 (sym c.if-unfit.ensures) c.if-record-name.true)
-          c.at-then-record-name.ensures;
-      memory = λ s. refl;
-      lent = refl;
-    }
 
 pub returns : goal.returns
 returns c =
-    let t = c.args.self.now in
-    let p = c.in-Some.innermost in
-    let r = c.in_ok-record.record in
-    let d = λ (s : table_sound t).
-    let found = asked_ok (table_nodes t) p (record_of (table_nodes t)) r (sym (c.record.ensures.value s) ∙ c.in_ok-record.was) in
-    shut _ _ _ s p c.args.name c.saturating_sub-end.result r
-    (named t s p r c.args.name c.in-Some.is found.1 (sym c.if-unfit.ensures) c.if-record-name.false)
-    c.in-Some.is found.1 (omega (arith, c.saturating_sub-end.ensures, c.from.ensures)) in
-    record {
-      called = λ s. called_by (d s) refl refl refl refl;
-      memory = λ s. memory_by (d s) refl refl;
-      lent = refl;
-    }
+    let d = shut _ _ _ c.args.self.now.sound _ c.inner_element.ensures c.in_ok-innermost.was c.args.name (c.args.self.now.used - (c.from.result + 1)) c.if-record-name.false
+    (omega (arith, c.from.ensures)) in
+    record { called = called_by d refl refl refl; memory = memory_by d refl refl; lent = refl }

@@ -1,12 +1,12 @@
-use Rattle.std.proofs.Common.{sym, ◌∙◌}
-use Rattle.record_table.proofs.Steps.{level_none, level_some, has_record}
+use Rattle.std.proofs.Common.{arith}
+use Rattle.record_table.proofs.Steps.{within, level_low, level_some}
 use Rattle.record_table.proofs.table.RecordTable.level_below.Goals as goal
 
-pub returns-in_default : goal.returns-in_default
-returns-in_default c = λ s. level_none _ _ _ s c.in_default.is
+pub bounds-self-parent : goal.bounds-self-parent
+bounds-self-parent c = within _ _ _ c.args.self.now.sound c.in-Some.parent c.in-Some.is
 
-pub returns-in-Ok : goal.returns-in-Ok
-returns-in-Ok c = λ s. level_some _ _ _ s c.in-Some.parent c.in-Ok.record _ c.in-Some.is (sym (c.record.ensures.value s) ∙ c.in-Ok.is) c.saturating_add.ensures
+pub overflow_add-result : goal.overflow_add-result
+overflow_add-result c = omega (arith, level_low _ _ _ c.args.self.now.sound c.in-Some.parent c.in-Some.is)
 
-pub returns-in-Err : goal.returns-in-Err
-returns-in-Err c = λ s. has_record _ _ _ s c.in-Some.parent c.in-Some.is _ (sym (c.record.ensures.value s) ∙ c.in-Err.is)
+pub returns-in-Some : goal.returns-in-Some
+returns-in-Some c = level_some _ _ _ c.args.self.now.sound c.in-Some.parent c.in-Some.is
