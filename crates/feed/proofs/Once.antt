@@ -5,7 +5,6 @@ use Rattle.refusal.specs.declared.Refusal.{Refusal}
 use Rattle.document.specs.declared.Node.{Node}
 use Rattle.document.specs.declared.Call.{Call}
 use Rattle.document.specs.Calls.{answered, after, run}
-use Rattle.document.proofs.Tests.{impossible}
 use Rattle.feed.specs.Records.{encoded, decoded}
 use Rattle.feed.specs.Feeds.{answered_by, encoded_all, Accepted, Ends, FeedsOnce}
 use Rattle.feed.proofs.Exact.{four, decoded-encoded}
@@ -24,7 +23,7 @@ not_here room ns i c xs rest None e n a h =
 not_here room ns i c xs rest (Some x) e n a h =
     let here : take 4 rest ≡ encoded c = ap (take 4) e ∙ take_at (encoded c) xs 4 (four c) in
     let again : answered room ns c ≡ Err x = sym (ap (answered_by room ns i) (ap decoded here ∙ decoded-encoded c)) ∙ h.1 in
-    impossible (cc)
+    cc
 
 same_stop : (room : ℕ) (ns : List Node) (i : ℕ) (rest : List ℕ) (stop stop' : Option Refusal) → Ends room ns i rest stop → Ends room ns i rest stop' → stop ≡ stop'
 same_stop room ns i rest None None a b = refl

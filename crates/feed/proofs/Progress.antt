@@ -1,5 +1,5 @@
 -- A feed is read record by record.
-use Rattle.std.proofs.Common.{◌≡◌, ℕ, ◌+◌, ◌<◌, ◌≤◌, min, Bool, true, false, cond, List, [], ◌∷◌, ◌++◌, length, take, Some, None, Ok, Err, Option, Result, sym, refl, ap, ◌∙◌, subst, inl, inr, arith}
+use Rattle.std.proofs.Common.{◌≡◌, ℕ, ◌+◌, ◌*◌, ◌/◌, ◌<◌, ◌≤◌, min, Bool, true, false, cond, List, [], ◌∷◌, ◌++◌, length, take, Some, None, Ok, Err, Option, Result, sym, refl, ap, ap₂, ◌∙◌, subst, inl, inr, arith}
 use Rattle.std.proofs.lemmas.List.{append-nil, append_assoc, length-append, length_push, get_or_append_left, get_or-append-add, get_or_past, take_at, take_all, nil_from_length}
 use Rattle.std.proofs.lemmas.Bool.{cases_lt}
 use Rattle.refusal.specs.declared.Ground.TheVariants.{BadCapacity, BadRecord}
@@ -11,13 +11,12 @@ use Rattle.document.specs.declared.Call.TheVariants as call
 use Rattle.document.specs.Document.{closed_count}
 use Rattle.document.specs.Calls.{unfit, answered, accepted, after, run}
 use Rattle.document.specs.Laws.{WellFormed, Leaves}
-use Rattle.document.proofs.Tests.{impossible}
 use Rattle.document.proofs.WellFormed.{closed_few}
 use Rattle.document.proofs.Calls.{calls_next, runs_stable}
 use Rattle.document.proofs.Effects.{calls_effect, answered_err, refused_after}
 use Rattle.feed.specs.Records.{encoded, decoded}
 use Rattle.feed.specs.Feeds.{answered_by, after_by, record_answered, Recorded, encoded_all, Accepted, Read, FedTo}
-use Rattle.feed.proofs.Exact.{Bytes, exact}
+use Rattle.feed.proofs.Exact.{Bytes, four, exact}
 
 bytes_left : (xs ys : List ℕ) → Bytes (xs ++ ys) → Bytes xs
 bytes_left xs ys b i = elim (cases_lt i (length xs)) [
@@ -45,15 +44,12 @@ called : (room : ℕ) (ns : List Node) (i : ℕ) (bs : List ℕ) (n : ℕ) → r
 called room ns i bs n e = go (decoded bs) refl e
   where
     bad : (b : Bool) → cond b (Err (refusal BadCapacity 0)) (Err (refusal BadRecord i)) ≡ Ok n → ⊥
-    bad true h = impossible (cc)
-    bad false h = impossible (cc)
+    bad true h = cc
+    bad false h = cc
 
     go : (o : Option Call) → decoded bs ≡ o → answered_by room ns i o ≡ Ok n → (c : Call) × (decoded bs ≡ Some c) × (answered room ns c ≡ Ok n)
     go None d h = absurd (bad (unfit room) h)
     go (Some c) d h = (c, d, h)
-
-read_none : (room : ℕ) (ns : List Node) (bs rest : List ℕ) → rest ≡ bs → Read room ns bs 0 rest ns
-read_none room ns bs rest e = record { calls = []; split = sym e; counted = refl; accepted = tt; leaves = refl }
 
 read_more : {room : ℕ} {ns new new' : List Node} {bs rest tail : List ℕ} {count : ℕ} → Bytes bs → Read room ns bs count rest new
     → (part : List ℕ) → rest ≡ part ++ tail → (n : ℕ) → record_answered room new count part ≡ Ok n → new' ≡ after_by room new (decoded part)
@@ -110,6 +106,14 @@ few_calls room ns (c ∷ cs) w a =
     let rest = few_calls room (after room ns c) cs (calls_next room ns c w).well a.1 in
     omega arith
 
+encoded_length : (cs : List Call) → length (encoded_all cs) ≡ 4 * length cs
+encoded_length [] = refl
+encoded_length (c ∷ cs) = omega (arith, length-append (encoded c) (encoded_all cs), four c, encoded_length cs)
+
+-- where nothing is left, every record is whole
+read_whole : {room : ℕ} {ns new : List Node} {bs rest : List ℕ} {count : ℕ} → Read room ns bs count rest new → rest ≡ [] → count ≡ length bs / 4
+read_whole {rest = rest} r e = omega (arith, ap length r.split, ap length e, length-append (encoded_all r.calls) rest, encoded_length r.calls, r.counted)
+
 pub read_few : {room : ℕ} {ns new : List Node} {bs rest : List ℕ} {count : ℕ} → WellFormed ns → Read room ns bs count rest new → count ≤ 8192
 read_few {room} {ns} w r =
     let new = run room ns r.calls in
@@ -117,47 +121,42 @@ read_few {room} {ns} w r =
     omega (arith, few_calls room ns r.calls w r.accepted, r.counted, closed_few new, end.bounded)
 
 -- what stands at the start of a turn, of any implementation
-pub record SoFar {S : Type 0} (nodes : S → List Node) (sound : S → Type 0) (room : S → ℕ) (was : S) (bs : List ℕ) (count : ℕ) (rest : List ℕ) (is : S) : Type 0 where
+pub record SoFar {S : Type 0} (nodes : S → List Node) (room : S → ℕ) (was : S) (bs : List ℕ) (count : ℕ) (rest : List ℕ) (is : S) : Type 0 where
   pub read : Read (room was) (nodes was) bs count rest (nodes is)
   pub same_room : room is ≡ room was
-  pub still_sound : sound is
 
-pub starts : {S : Type 0} {nodes : S → List Node} {sound : S → Type 0} {room : S → ℕ} {was : S} {bs rest : List ℕ} → rest ≡ bs → sound was
-    → SoFar nodes sound room was bs 0 rest was
-starts e s = record { read = read_none _ _ _ _ e; same_room = refl; still_sound = s }
+pub finishes : {S : Type 0} {nodes : S → List Node} {room : S → ℕ} {was is : S} {bs rest : List ℕ} {count : ℕ} → WellFormed (nodes was)
+    → SoFar nodes room was bs count rest is → length rest ≡ 0 → FedTo nodes room was bs (length bs / 4) None is
+finishes {nodes = nodes} {room = room} {was = was} {is = is} {bs = bs} {rest = rest} {count = count} w f l =
+    let none : rest ≡ [] = nil_from_length rest l in
+    let all : count ≡ length bs / 4 = read_whole f.read none in
+    rw (← all) (record {
+      feeds = record { rest = rest; read = f.read; ended = none };
+      few = read_few w f.read;
+      same_room = f.same_room;
+    })
 
-pub finishes : {S : Type 0} {nodes : S → List Node} {sound : S → Type 0} {room : S → ℕ} {was is : S} {bs rest : List ℕ} {count : ℕ} → WellFormed (nodes was)
-    → SoFar nodes sound room was bs count rest is → length rest ≡ 0 → FedTo nodes sound room was bs count None is
-finishes w f l = record {
-  feeds = record { rest = _; read = f.read; ended = nil_from_length _ l };
-  few = read_few w f.read;
-  same_room = f.same_room;
-  still_sound = f.still_sound;
-}
-
-module _ {S : Type 0} {nodes : S → List Node} {sound : S → Type 0} {room : S → ℕ} {was is new : S} {bs rest : List ℕ} {count : ℕ} {r : Result ℕ Refusal}
-    (f : SoFar nodes sound room was bs count rest is) (part tail : List ℕ) (cut : rest ≡ part ++ tail) (d : Recorded nodes sound room is count part r new) where
+-- record i, the next one
+module _ {S : Type 0} {nodes : S → List Node} {room : S → ℕ} {was is new : S} {bs rest : List ℕ} {count i : ℕ} {r : Result ℕ Refusal}
+    (f : SoFar nodes room was bs count rest is) (at : i ≡ count) (part tail : List ℕ) (cut : rest ≡ part ++ tail) (d : Recorded nodes room is i part r new) where
   answer : record_answered (room was) (nodes is) count part ≡ r
-  answer = ap (λ (m : ℕ). record_answered m (nodes is) count part) (sym f.same_room) ∙ sym d.answer
+  answer = ap₂ (λ (m j : ℕ). record_answered m (nodes is) j part) (sym f.same_room) (sym at) ∙ sym d.answer
 
   leaves : nodes new ≡ after_by (room was) (nodes is) (decoded part)
   leaves = d.leaves ∙ ap (λ (m : ℕ). after_by m (nodes is) (decoded part)) f.same_room
 
-  pub goes_on : Bytes bs → (n : ℕ) → r ≡ Ok n → SoFar nodes sound room was bs (count + 1) tail new
-  goes_on bytes n h = record {
+  pub goes_on : Bytes bs → (n : ℕ) → r ≡ Ok n → (next : ℕ) → next ≡ count + 1 → SoFar nodes room was bs next tail new
+  goes_on bytes n h next e = rw e (record {
     read = read_more bytes f.read part cut n (answer ∙ h) leaves;
     same_room = d.same_room ∙ f.same_room;
-    still_sound = d.still_sound;
-  }
+  })
 
-  pub stops : WellFormed (nodes was) → length part ≡ min 4 (length rest) → 0 < length rest → (e : Refusal) → r ≡ Err e
-      → FedTo nodes sound room was bs count (Some e) new
+  pub stops : WellFormed (nodes was) → length part ≡ min 4 (length rest) → 0 < length rest → (e : Refusal) → r ≡ Err e → FedTo nodes room was bs i (Some e) new
   stops w l some x h =
       let same : nodes new ≡ nodes is = leaves ∙ refused_record (room was) (nodes is) count part x (answer ∙ h) in
       let read : Read (room was) (nodes was) bs count rest (nodes new) = rw same f.read in
-      record {
+      rw at (record {
         feeds = record { rest = rest; read = read; ended = (some, rw (same, next_record rest part tail cut l) (answer ∙ h)) };
         few = read_few w read;
         same_room = d.same_room ∙ f.same_room;
-        still_sound = d.still_sound;
-      }
+      })

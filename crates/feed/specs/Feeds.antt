@@ -21,18 +21,16 @@ abbrev pub record_answered : ℕ → List Node → ℕ → List ℕ → Result �
 record_answered room ns i bs = answered_by room ns i (decoded bs)
 
 -- A value of some implementation is asked whether its room is unfit, and stays as it was.
-pub record Probed {S : Type 0} (nodes : S → List Node) (sound : S → Type 0) (room : S → ℕ) (was : S) (r : Bool) (is : S) : Type 0 where
+pub record Probed {S : Type 0} (nodes : S → List Node) (room : S → ℕ) (was : S) (r : Bool) (is : S) : Type 0 where
   pub answer : r ≡ unfit (room was)
   pub leaves : nodes is ≡ nodes was
   pub same_room : room is ≡ room was
-  pub still_sound : sound is
 
--- A record fed to a value of some implementation: its answer r, the nodes that it leaves, and the value is sound again and has the same room.
-pub record Recorded {S : Type 0} (nodes : S → List Node) (sound : S → Type 0) (room : S → ℕ) (was : S) (i : ℕ) (bs : List ℕ) (r : Result ℕ Refusal) (is : S) : Type 0 where
+-- A record fed to a value of some implementation: its answer r, the nodes that it leaves, and it has the same room.
+pub record Recorded {S : Type 0} (nodes : S → List Node) (room : S → ℕ) (was : S) (i : ℕ) (bs : List ℕ) (r : Result ℕ Refusal) (is : S) : Type 0 where
   pub answer : r ≡ record_answered (room was) (nodes was) i bs
   pub leaves : nodes is ≡ after_by (room was) (nodes was) (decoded bs)
   pub same_room : room is ≡ room was
-  pub still_sound : sound is
 
 abbrev pub encoded_all : List Call → List ℕ
 encoded_all [] = []
@@ -68,8 +66,7 @@ FeedsOnce = (room : ℕ) (ns : List Node) (bs : List ℕ) (count count' : ℕ) (
     → Feeds room ns bs count stop new → Feeds room ns bs count' stop' new' → (count ≡ count') × (stop ≡ stop') × (new ≡ new')
 
 -- A feed read into a value of some implementation. A document has at most 4,096 nodes, each with at most two records.
-pub record FedTo {S : Type 0} (nodes : S → List Node) (sound : S → Type 0) (room : S → ℕ) (was : S) (bs : List ℕ) (count : ℕ) (stop : Option Refusal) (is : S) : Type 0 where
+pub record FedTo {S : Type 0} (nodes : S → List Node) (room : S → ℕ) (was : S) (bs : List ℕ) (count : ℕ) (stop : Option Refusal) (is : S) : Type 0 where
   pub feeds : Feeds (room was) (nodes was) bs count stop (nodes is)
   pub few : count ≤ 8192
   pub same_room : room is ≡ room was
-  pub still_sound : sound is

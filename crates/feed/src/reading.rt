@@ -6,7 +6,8 @@ use document::{Growing, Readable, perform};
 use refusal::{Ground, Refusal};
 
 // How many records of a feed were accepted, and the refusal of the next one, if it came to that.
-#[derive(Clone, Copy)]
+// What was accepted counts also where the next record is refused, so this is no `Result`.
+#[derive(Clone, Copy, PartialEq, Eq, Debug)]
 pub struct Fed {
     pub records: usize,
     pub stop: Option<Refusal>,
@@ -15,46 +16,37 @@ pub struct Fed {
 // Whether the document has memory for no node or for too many.
 // No element has the name 0, so this close is refused and changes nothing, and want of memory is its first ground.
 fn unfit<D: Growing>(document: &mut D) -> bool
-    ensures { D.Readable.sound document.old → Probed D.Readable.nodes D.Readable.sound D.Growing.room document.old result document.new }
+    ensures { Probed D.Readable.nodes D.Growing.room document.old result document.new }
 {
-    match document.close(0) {
-        Err(refusal) => matches!(refusal.ground, Ground::BadCapacity),
-        Ok(_) => false,
-    }
+    document.close(0) == Err(Ground::BadCapacity.at(0))
 }
 
 // Makes the call that the record of this index stands for.
 pub fn feed_record<D: Growing>(document: &mut D, index: usize, bytes: &[u8]) -> Result<u32, Refusal>
-    ensures { D.Readable.sound document.old → Recorded D.Readable.nodes D.Readable.sound D.Growing.room document.old index bytes.now result document.new }
+    ensures { Recorded D.Readable.nodes D.Growing.room document.old index bytes.now result document.new }
 {
     match decode(index, bytes) {
         Ok(call) => perform(document, call),
-        Err(refusal) => {
-            if unfit(document) {
-                Err(Ground::BadCapacity.at(0))
-            } else {
-                Err(refusal)
-            }
-        }
+        Err(_) if unfit(document) => Err(Ground::BadCapacity.at(0)),
+        Err(refusal) => Err(refusal),
     }
 }
 
 // Makes the calls of a feed, to its end or to the first record that is refused.
 pub fn feed<D: Growing>(document: &mut D, bytes: &[u8]) -> Fed
-    ensures { D.Readable.sound document.old → FedTo D.Readable.nodes D.Readable.sound D.Growing.room document.old bytes.now result.records result.stop document.new }
+    ensures { FedTo D.Readable.nodes D.Growing.room document.old bytes.now result.records result.stop document.new }
 {
-    let mut records: usize = 0;
-    for record in bytes.chunks(RECORD_BYTES) {
-        if let Err(refusal) = feed_record(document, records, record) {
+    for (index, record) in bytes.chunks(RECORD_BYTES).enumerate() {
+        if let Err(refusal) = feed_record(document, index, record) {
             return Fed {
-                records,
+                records: index,
                 stop: Some(refusal),
             };
         }
-        records += 1;
     }
+    // Every record was accepted, so each is whole.
     Fed {
-        records,
+        records: bytes.len() / RECORD_BYTES,
         stop: None,
     }
 }

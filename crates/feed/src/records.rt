@@ -11,24 +11,21 @@ use refusal::{Ground, Refusal};
 // The length of a record.
 pub const RECORD_BYTES: usize = 4;
 
-// The bytes of a call's record.
+// The bytes of a call's record. No `From` and no `TryFrom` below, since a call and its bytes are types of other crates.
 pub fn encode(call: Call) -> [u8; RECORD_BYTES]
     ensures { result ≡ encoded call }
 {
-    match call {
-        Call::Open(name) => {
-            let [low, high] = name.to_le_bytes();
-            [1, 0, low, high]
-        }
-        Call::Text => [2, 0, 0, 0],
-        Call::Close(name) => {
-            let [low, high] = name.to_le_bytes();
-            [3, 0, low, high]
-        }
-    }
+    // The codes are the format's; in code a call is an enum.
+    let (code, name) = match call {
+        Call::Open(name) => (1, name),
+        Call::Text => (2, 0),
+        Call::Close(name) => (3, name),
+    };
+    let [low, high] = name.to_le_bytes();
+    [code, 0, low, high]
 }
 
-// The call that the record of this index stands for. The bytes that are accepted are those that `encode` gives.
+// The call that the record of this index stands for. The bytes that are accepted are those that `encode` gives, its codes too.
 pub fn decode(index: usize, bytes: &[u8]) -> Result<Call, Refusal>
     ensures value { result ≡ ok_or (decoded bytes.now) (refusal BadRecord index) }
     ensures exact { (c : Call) → (result ≡ Ok c) ↔ (bytes.now ≡ encoded c) }
