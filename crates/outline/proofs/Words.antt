@@ -1,12 +1,10 @@
--- A listed name is ASCII, so its bytes are its text.
-use Rattle.std.proofs.Common.{◌≡◌, ℕ, zero, suc, ◌+◌, ◌-◌, ◌<◌, ◌≤◌, Bool, true, false, cond, ◌||◌, eqb, List, [], ◌∷◌, ◌++◌, length, get_or, take, is_some, Some, None, decimal, unwrap_or, sym, ap, ◌∙◌, subst, arith}
-use Rattle.std.proofs.Math.Utf8.{encode, encodes}
+-- What the pieces of a line come to: a listed name is ASCII, so it is text, and the margin is padded by the format.
+use Rattle.std.proofs.Common.{◌≡◌, ℕ, zero, suc, ◌-◌, ◌<◌, ◌≤◌, Bool, true, false, cond, ◌||◌, ◌&&◌, eqb, ltb, leb, Option, List, [], ◌∷◌, ◌++◌, length, get_or, is_some, Some, None, decimal, replicate, codes, refl, ◌^◌, ◌==◌, unwrap_or, ap, subst, arith}
 use Rattle.std.specs.List.{AllByRecursion}
-use Rattle.std.proofs.lemmas.Str.Ascii.{encodes-IsAscii}
+use Rattle.std.proofs.lemmas.Str.{IsUtf8-from_ascii}
+use Rattle.std.specs.Str.{IsUtf8}
 use Rattle.std.proofs.ByRecursion.{IsAscii-from_all}
-use Rattle.std.proofs.lemmas.List.{take_more, append-nil}
 use Rattle.std.proofs.lemmas.Bool.{and_parts, false≢true}
-use Rattle.std.proofs.lemmas.Str.{encodes-append}
 use Rattle.std.proofs.lemmas.Bool.Decides.{nat_tests}
 use Rattle.names.specs.Classes.{class_of, begins, goes}
 use Rattle.names.specs.Names.{is_name, all_go}
@@ -14,14 +12,12 @@ use Rattle.names.specs.Lists.{name_of}
 use Rattle.names.specs.Listed.{listed}
 use Rattle.names.specs.declared.list.NameList.{NameList}
 use Rattle.names.proofs.Laws.{listed_proper}
-use Rattle.outline.specs.Lines.{label}
-
--- one character more is written
-pub encodes_more : (bs : List ℕ) (i : ℕ) → i < length bs → encodes (take i bs) ++ encode (get_or bs i 0) ≡ encodes (take (i + 1) bs)
-encodes_more bs i lt =
-    ap (λ l. encodes (take i bs) ++ l) (sym (append-nil (encode (get_or bs i 0))))
-    ∙ sym (encodes-append (take i bs) (get_or bs i 0 ∷ []))
-    ∙ ap encodes (sym (take_more bs i 0 lt))
+use Rattle.std.specs.List.{repeat}
+use Rattle.std.specs.Fmt.{format_spec, styled_text, padded, char_count, take_chars}
+use Rattle.std.proofs.lemmas.Str.{encode_ascii}
+use Rattle.document.specs.declared.Kind.TheVariants.{Element, Text}
+use Rattle.outline.specs.declared.line.Line.{Line}
+use Rattle.outline.specs.Lines.{label, margin, kind_words, line_words, shown_end, shown_line, shown_named_line}
 
 abbrev Low : List ℕ → Type 0
 Low n = AllByRecursion (λ b. b < 128) n
@@ -47,8 +43,38 @@ held_low : (b : Bool) (a n : List ℕ) → Low a → cond b (Some a) None ≡ So
 held_low true a n h e = let same : a ≡ n = cc e in subst (λ (l : List ℕ). Low l) same h
 held_low false a n h e = absurd (false≢true (ap is_some e))
 
--- the text of the name that the list has of this number
-pub word_is : (list : NameList) (number : ℕ) (n : List ℕ) → name_of (listed list) number ≡ Some n → encodes n ≡ label (listed list) number
-word_is list number n e =
-    let low = held_low _ _ n (at_low (listed list) (listed_proper list).named (number - 1)) e in
-    encodes-IsAscii n (IsAscii-from_all n low) ∙ ap (λ o. unwrap_or o (decimal number)) (sym e)
+-- what the list has of a number is ASCII
+pub listed_utf8 : (list : NameList) (number : ℕ) (n : List ℕ) → name_of (listed list) number ≡ Some n → IsUtf8 n
+listed_utf8 list number n e =
+    IsUtf8-from_ascii n (IsAscii-from_all n (held_low _ _ n (at_low (listed list) (listed_proper list).named (number - 1)) e))
+
+-- an empty list has no name of any number
+pub label_none : (number : ℕ) → label [] number ≡ decimal number
+label_none number =
+    let none : (ltb 0 number && leb number 0) ≡ false = grind (arith, nat_tests) in
+    ap (λ b. unwrap_or (cond {A = Option (List ℕ)} b (Some []) None) (decimal number)) none
+
+-- `pointer` has the same three lines; the two crates share none
+blanks_repeated : (n : ℕ) → repeat {A = ℕ} n (32 ∷ []) ≡ replicate n 32
+blanks_repeated zero = refl
+blanks_repeated (suc n) = ap (λ l. 32 ∷ l) (blanks_repeated n)
+
+-- the margin is padded by the format
+pub indented : (n : ℕ) → styled_text (format_spec 32 0 0 n (2 ^ 64 - 1)) [] ≡ replicate n 32
+unfolding padded char_count take_chars
+indented zero = refl
+indented (suc n) =
+    let some : (suc n == 0) ≡ false = grind (arith, nat_tests) in
+    let behind : suc n - 0 - 0 ≡ suc n = omega arith in
+    rw (encode_ascii 32 (omega arith), some, behind) (blanks_repeated (suc n))
+
+pub element_line : (names : List (List ℕ)) (l : Line) → l.kind ≡ Element
+    → margin l.level ++ (decimal l.node ++ (codes " element " ++ (label names l.name ++ (codes " " ++ shown_end l.end)))) ≡ shown_named_line names l
+element_line names l e = rw e refl
+
+pub text_line : (names : List (List ℕ)) (l : Line) → l.kind ≡ Text
+    → margin l.level ++ (decimal l.node ++ (codes " text " ++ shown_end l.end)) ≡ shown_named_line names l
+text_line names l e = rw e refl
+
+pub no_names : (l : Line) → shown_named_line [] l ≡ shown_line l
+no_names l = ap (λ n. line_words (kind_words l.kind n) l) (label_none l.name)

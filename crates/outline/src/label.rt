@@ -1,11 +1,10 @@
 // A name number as text.
 ghost use Rattle.std.specs.Prelude.{Some};
-ghost use Rattle.std.specs.Str.{encode_utf8_all};
 ghost use Rattle.names.specs.Listed.{listed};
 ghost use Rattle.outline.specs.Lines.{label};
 
 use names::NameList;
-use std::fmt;
+use std::{fmt, str};
 
 // The name where the list has one of this number, else the number.
 #[derive(Clone, Copy)]
@@ -17,29 +16,14 @@ pub struct Label<'a> {
 impl fmt::Display for Label<'_> {
     ghost output = { λ l. Some (label (listed l.names) l.number) };
 
+    #[tactic(auto, using(crate::proofs::Words::listed_utf8))]
     fn fmt<W: fmt::Write>(&self, f: &mut fmt::Formatter<W>) -> fmt::Result {
         let number = self.number;
-        match self.names.name(number) {
-            Some(name) => {
-                let word = Word(name);
-                write!(f, "{word}")
-            }
+        // A name of a list is ASCII, so it is text.
+        let name = self.names.name(number);
+        match name.map(|name| str::from_utf8(name).unwrap()) {
+            Some(name) => write!(f, "{name}"),
             None => write!(f, "{number}"),
         }
-    }
-}
-
-// Each byte is a character.
-#[derive(Clone, Copy)]
-struct Word<'a>(&'a [u8]);
-
-impl fmt::Display for Word<'_> {
-    ghost output = { λ w. Some (encode_utf8_all w.0.now) };
-
-    fn fmt<W: fmt::Write>(&self, f: &mut fmt::Formatter<W>) -> fmt::Result {
-        for byte in self.0 {
-            f.write_char(*byte as char)?;
-        }
-        Ok(())
     }
 }

@@ -1,10 +1,10 @@
 // A node as a line of the outline, with its name.
 ghost use Rattle.std.specs.Prelude.{Some};
 ghost use Rattle.names.specs.Listed.{listed};
-ghost use Rattle.outline.specs.Lines.{shown_named_kind, shown_named_line};
+ghost use Rattle.outline.specs.Lines.{shown_named_line};
 
 use super::label::Label;
-use super::line::{EndWords, Line, Margin};
+use super::line::{EndWords, Line};
 use document::Kind;
 use names::NameList;
 use std::fmt;
@@ -19,38 +19,21 @@ pub struct NamedLine<'a> {
 impl fmt::Display for NamedLine<'_> {
     ghost output = { λ l. Some (shown_named_line (listed l.names) l.line) };
 
+    #[tactic(auto, using(crate::proofs::Words::indented, crate::proofs::Words::element_line, crate::proofs::Words::text_line))]
     fn fmt<W: fmt::Write>(&self, f: &mut fmt::Formatter<W>) -> fmt::Result {
-        let margin = Margin(self.line.level);
-        let node = self.line.node;
-        let kind = NamedKindWords {
-            kind: self.line.kind,
-            name: self.line.name,
-            names: self.names,
-        };
-        let end = EndWords(self.line.end);
-        write!(f, "{margin}{node} {kind} {end}")
-    }
-}
-
-// An element has a name, a text has none.
-#[derive(Clone, Copy)]
-struct NamedKindWords<'a> {
-    kind: Kind,
-    name: u16,
-    names: NameList<'a>,
-}
-
-impl fmt::Display for NamedKindWords<'_> {
-    ghost output = { λ k. Some (shown_named_kind (listed k.names) k.kind k.name) };
-
-    fn fmt<W: fmt::Write>(&self, f: &mut fmt::Formatter<W>) -> fmt::Result {
+        let line = self.line;
+        // Two blanks a level.
+        let indent = 2 * usize::from(self.line.level);
+        let node = line.node;
         let name = Label {
-            number: self.name,
+            number: line.name,
             names: self.names,
         };
-        match self.kind {
-            Kind::Element => write!(f, "element {name}"),
-            Kind::Text => write!(f, "text"),
+        let end = EndWords(line.end);
+        // A text has no name.
+        match line.kind {
+            Kind::Element => write!(f, "{:indent$}{node} element {name} {end}", ""),
+            Kind::Text => write!(f, "{:indent$}{node} text {end}", ""),
         }
     }
 }
