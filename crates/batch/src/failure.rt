@@ -4,47 +4,64 @@ use pointer::Pointer;
 use refusal::Refusal;
 use std::alloc::AllocError;
 use std::{fmt, io};
+use thiserror::Error;
 
-#[derive(Drop)]
+#[derive(Debug, Drop, Error)]
 pub enum Failure {
-    Refused(Refusal),
+    #[error("refused: {0}")]
+    Refused(#[from] Refusal),
+    #[error("{0}")]
     Pointed(Pointed),
+    #[error("{usage}", usage = USAGE)]
     Usage,
-    NoMemory,
-    Io(io::Error),
+    #[error("batch: out of memory")]
+    NoMemory(#[from(alloc)] AllocError),
+    #[error("batch: {0}")]
+    Io(#[from] io::Error),
+    #[error("batch: the name list cannot be read: {0}")]
     List(io::Error),
 }
 
 // A refusal with the text that it points into.
-#[derive(Drop)]
+#[derive(Debug, Drop)]
 pub struct Pointed {
     pub refusal: Refusal,
     pub text: Vec<u8>,
     pub place: usize,
-    pub note: Note,
+    pub note: Option<Note>,
 }
 
 // What else there is to say of the place.
-#[derive(Clone, Copy)]
+#[derive(Clone, Copy, Debug, Error)]
 pub enum Note {
-    Nothing,
+    #[error("The text ends in a line end, which is no part of a path.")]
     LineEnd,
+    #[error("This is line {0} of the name list.")]
     Line(usize),
 }
 
-impl fmt::Display for Failure {
-    fn fmt<W: fmt::Write>(&self, f: &mut fmt::Formatter<W>) -> fmt::Result {
-        match self {
-            Failure::Refused(refusal) => write!(f, "refused: {refusal}"),
-            Failure::Pointed(pointed) => write!(f, "{pointed}"),
-            Failure::Usage => write!(f, "{USAGE}"),
-            Failure::NoMemory => write!(f, "batch: out of memory"),
-            Failure::Io(error) => write!(f, "batch: {error}"),
-            Failure::List(error) => write!(f, "batch: the name list cannot be read: {error}"),
+impl Failure {
+    // A refusal that points into a text, or that there is no memory for the text.
+    pub(super) fn pointed(
+        rt: &HostRuntime,
+        refusal: Refusal,
+        text: &[u8],
+        place: usize,
+        note: Option<Note>,
+    ) -> Failure {
+        match text.to_vec(rt.alloc()) {
+            Ok(text) => Failure::Pointed(Pointed {
+                refusal,
+                text,
+                place,
+                note,
+            }),
+            Err(error) => Failure::NoMemory(error),
         }
     }
 }
 
+// By hand: the text ends in a note or in none, and a message of a derive has no way to say that.
 impl fmt::Display for Pointed {
     fn fmt<W: fmt::Write>(&self, f: &mut fmt::Formatter<W>) -> fmt::Result {
         let refusal = self.refusal;
@@ -52,38 +69,10 @@ impl fmt::Display for Pointed {
             text: &self.text,
             place: self.place,
         };
-        let note = self.note;
-        write!(f, "refused: {refusal}\n{pointer}{note}")
-    }
-}
-
-impl fmt::Display for Note {
-    fn fmt<W: fmt::Write>(&self, f: &mut fmt::Formatter<W>) -> fmt::Result {
-        match self {
-            Note::Nothing => Ok(()),
-            Note::LineEnd => write!(
-                f,
-                "\nThe text ends in a line end, which is no part of a path."
-            ),
-            Note::Line(number) => write!(f, "\nThis is line {number} of the name list."),
+        write!(f, "refused: {refusal}\n{pointer}")?;
+        match self.note {
+            Some(note) => write!(f, "\n{note}"),
+            None => Ok(()),
         }
-    }
-}
-
-impl From<AllocError> for Failure {
-    fn from(_error: AllocError) -> Failure {
-        Failure::NoMemory
-    }
-}
-
-impl From<io::Error> for Failure {
-    fn from(error: io::Error) -> Failure {
-        Failure::Io(error)
-    }
-}
-
-impl From<Refusal> for Failure {
-    fn from(refusal: Refusal) -> Failure {
-        Failure::Refused(refusal)
     }
 }

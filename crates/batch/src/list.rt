@@ -1,5 +1,5 @@
 // Name lists from files.
-use super::failure::{Failure, Note, Pointed};
+use super::failure::{Failure, Note};
 use names::NameList;
 use refusal::Refusal;
 use std::fs::File;
@@ -10,47 +10,27 @@ use std::io::Read;
 const LIST_BYTES: u64 = 1024 * 33 + 1;
 
 pub(super) fn read(rt: &HostRuntime, path: &str) -> Result<Vec<u8>, Failure> {
+    bytes(rt, path).map_err(Failure::List)
+}
+
+fn bytes(rt: &HostRuntime, path: &str) -> io::Result<Vec<u8>> {
     let mut bytes = Vec::new(rt.alloc());
-    match read_into(rt, path, &mut bytes) {
-        Ok(_) => Ok(bytes),
-        Err(error) => Err(Failure::List(error)),
-    }
+    File::open(rt, path)?
+        .take(LIST_BYTES)
+        .read_to_end(&mut bytes)?;
+    Ok(bytes)
 }
 
-fn read_into(rt: &HostRuntime, path: &str, bytes: &mut Vec<u8>) -> Result<usize, io::Error> {
-    File::open(rt, path)?.take(LIST_BYTES).read_to_end(bytes)
-}
-
-// Makes the list that of the bytes.
-pub(super) fn load<'a>(
-    rt: &HostRuntime,
-    names: &mut NameList<'a>,
-    bytes: &'a [u8],
-) -> Result<(), Failure> {
-    match names.load(bytes) {
-        Ok(()) => Ok(()),
-        Err(refusal) => Err(bad_line(rt, refusal, bytes)?),
-    }
+// The list of the bytes.
+pub(super) fn load<'a>(rt: &HostRuntime, bytes: &'a [u8]) -> Result<NameList<'a>, Failure> {
+    NameList::new(bytes).map_err(|refusal| bad_line(rt, refusal, bytes))
 }
 
 // The refusal of a list, with its bad line.
-fn bad_line(rt: &HostRuntime, refusal: Refusal, bytes: &[u8]) -> Result<Failure, Failure> {
-    let mut number: usize = 1;
-    let mut end = bytes.len();
-    for (place, byte) in bytes.iter().enumerate() {
-        if *byte == b'\n' {
-            if place >= refusal.place {
-                end = place;
-                break;
-            }
-            number = number.saturating_add(1);
-        }
-    }
-    let line = bytes.get(refusal.place..end).unwrap_or(bytes);
-    Ok(Failure::Pointed(Pointed {
-        refusal,
-        text: line.to_vec(rt.alloc())?,
-        place: 0,
-        note: Note::Line(number),
-    }))
+fn bad_line(rt: &HostRuntime, refusal: Refusal, bytes: &[u8]) -> Failure {
+    // Each line before the bad one is ended, so there are as many pieces as the bad line's number.
+    let (before, rest) = bytes.split_at(refusal.place.min(bytes.len()));
+    let number = before.split(|byte| *byte == b'\n').count();
+    let line = rest.split(|byte| *byte == b'\n').next().unwrap_or_default();
+    Failure::pointed(rt, refusal, line, 0, Some(Note::Line(number)))
 }

@@ -38,23 +38,19 @@ fn main(rt: HostRuntime) -> ExitCode {
 
 fn run(rt: &HostRuntime) -> Result<(), Failure> {
     let args = env::args(rt)?.collect::<Vec<String>>(rt.alloc())?;
-    let Some(command) = args.get(1) else {
-        println!(rt; "{USAGE}")?;
-        return Ok(());
-    };
-    match (command.as_str(), args.get(2), args.get(3), args.len()) {
-        ("help", None, None, 2) => println!(rt; "{USAGE}")?,
-        ("show", None, None, 2) => show::show(rt, NameList::empty())?,
-        ("show", Some(option), Some(file), 4) => {
-            if option.as_str() != "--names" {
-                return Err(Failure::Usage);
-            }
-            let bytes = list::read(rt, file.as_str())?;
-            let mut names = NameList::empty();
-            list::load(rt, &mut names, &bytes)?;
-            show::show(rt, names)?;
+    let words = args
+        .iter()
+        .skip(1)
+        .map(String::as_str)
+        .collect::<Vec<&str>>(rt.alloc())?;
+    match words.as_slice() {
+        [] | ["help"] => println!(rt; "{USAGE}")?,
+        ["show"] => show::show(rt, NameList::empty())?,
+        ["show", "--names", file] => {
+            let bytes = list::read(rt, file)?;
+            show::show(rt, list::load(rt, &bytes)?)?;
         }
-        ("path", Some(file), Some(text), 4) => path::path(rt, file.as_str(), text.as_str())?,
+        ["path", file, text] => path::path(rt, file, text)?,
         _ => return Err(Failure::Usage),
     }
     Ok(())
