@@ -11,13 +11,11 @@ const NAME_OF_32: &[u8] = b"abcdefghijklmnopqrstuvwxyz012345\n";
 const NAME_OF_33: &[u8] = b"abcdefghijklmnopqrstuvwxyz0123456\n";
 
 fn good_list(rt: &impl Abort, list: &[u8]) {
-    let mut names = NameList::empty();
-    assert!(rt; names.load(list).is_ok());
+    assert!(rt; NameList::new(list).is_ok());
 }
 
 fn bad_list(rt: &impl Abort, list: &[u8], place: usize) {
-    let mut names = NameList::empty();
-    assert_eq!(rt; names.load(list), Err(Ground::BadLine.at(place)));
+    assert_eq!(rt; NameList::new(list).err(), Some(Ground::BadLine.at(place)));
 }
 
 #[test]
@@ -38,22 +36,19 @@ fn lists(rt: HostRuntime) {
     bad_list(&rt, b"ab\na\nab\na\n", 5);
 }
 
+const LETTERS: &[u8] = b"abcdefghijklmnopqrstuvwxyz";
+
 // As many names of three bytes as are wanted, all different.
 fn many(rt: &HostRuntime, count: usize) -> Result<Vec<u8>, Fail> {
     let mut list = Vec::new(rt.alloc());
-    let mut left = count;
-    for a in b'a'..=b'z' {
-        for b in b'a'..=b'z' {
-            for c in b'a'..=b'b' {
-                if left > 0 {
-                    left -= 1;
-                    list.push(a)?;
-                    list.push(b)?;
-                    list.push(c)?;
-                    list.push(b'\n')?;
-                }
-            }
-        }
+    for n in 0..count {
+        let name = [
+            LETTERS[n / 52 % 26],
+            LETTERS[n / 2 % 26],
+            LETTERS[n % 2],
+            b'\n',
+        ];
+        list.extend_from_slice(&name)?;
     }
     Ok(list)
 }
@@ -67,9 +62,8 @@ fn many_names(rt: HostRuntime) -> Result<(), Fail> {
 
 #[test]
 fn look_ups(rt: HostRuntime) -> Result<(), Fail> {
-    let mut names = NameList::empty();
-    assert_eq!(rt; names.number(b"a"), None);
-    names.load(b"a\nbc\n")?;
+    assert_eq!(rt; NameList::empty().number(b"a"), None);
+    let names = NameList::new(b"a\nbc\n")?;
     assert_eq!(rt; names.len(), 2);
     assert_eq!(rt; names.number(b"a"), Some(1));
     assert_eq!(rt; names.number(b"bc"), Some(2));
@@ -113,16 +107,11 @@ fn places(rt: HostRuntime) {
     assert!(rt; read(NAME_OF_32, b"/abcdefghijklmnopqrstuvwxyz012345").is_ok());
 }
 
-fn chain_of(rt: &impl Abort, steps: &[Step]) -> Chain {
-    let mut chain = Chain::new();
-    for step in steps {
-        let Some(longer) = chain.with(*step) else {
-            assert!(rt; false);
-            break;
-        };
-        chain = longer;
-    }
-    chain
+fn chain_of(steps: &[Step]) -> Result<Chain, Fail> {
+    steps
+        .iter()
+        .try_fold(Chain::new(), |chain, step| chain.with(*step))
+        .ok_or_else(|| Fail::new("the chain has too many steps"))
 }
 
 const CHILD_1: Step = Step {
@@ -145,7 +134,7 @@ fn chains(rt: HostRuntime) -> Result<(), Fail> {
     assert_eq!(rt; read(b"a\nb\n", b"/")?, Chain::new());
     assert_eq!(rt;
         read(b"a\nb\n", b"/a/self::b/..")?,
-        chain_of(&rt, &[CHILD_1, SELF_2, ANY_PARENT])
+        chain_of(&[CHILD_1, SELF_2, ANY_PARENT])?
     );
     assert!(rt; read(b"a\nb\n", b"/a")? != read(b"a\nb\n", b"/b")?);
     Ok(())
@@ -158,7 +147,7 @@ fn not_written(rt: &impl Abort, list: &[u8], chain: &Chain, out: &mut [u8], refu
 // A bad list comes before a name that is not in it, and that before too few bytes; what is refused writes nothing.
 #[test]
 fn written(rt: HostRuntime) -> Result<(), Fail> {
-    let chain = chain_of(&rt, &[ANY_PARENT, CHILD_1, SELF_2]);
+    let chain = chain_of(&[ANY_PARENT, CHILD_1, SELF_2])?;
     let mut out = [b'x'; 48];
     not_written(&rt, b"a", &chain, &mut [], Ground::BadLine.at(0));
     not_written(&rt, b"", &chain, &mut [], Ground::UnknownName.at(1));

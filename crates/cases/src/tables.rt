@@ -30,15 +30,18 @@ fn sample_batch(rt: HostRuntime) -> Result<(), Fail> {
     let mut table = RecordTable::new(&mut records);
     sample(&mut table)?;
     assert_eq!(rt; table.count(), 6);
-    let parents = [None, Some(0), Some(1), Some(0), Some(3), Some(4)];
-    let levels = [0, 1, 2, 1, 2, 3];
-    let ends = [5, 1, 0, 4, 3, 2];
-    let mut node = 0;
-    for ((parent, level), end) in parents.iter().zip(levels.iter()).zip(ends.iter()) {
-        assert_eq!(rt; table.parent(node), Ok(*parent));
-        assert_eq!(rt; table.level(node), Ok(*level));
-        assert_eq!(rt; table.end(node), Ok(*end));
-        node = node.saturating_add(1);
+    let nodes = [
+        (None, 0, 5),
+        (Some(0), 1, 1),
+        (Some(1), 2, 0),
+        (Some(0), 1, 4),
+        (Some(3), 2, 3),
+        (Some(4), 3, 2),
+    ];
+    for (node, (parent, level, end)) in (0u32..).zip(nodes) {
+        assert_eq!(rt; table.parent(node), Ok(parent));
+        assert_eq!(rt; table.level(node), Ok(level));
+        assert_eq!(rt; table.end(node), Ok(end));
     }
     assert_eq!(rt; table.innermost(), None);
     assert_eq!(rt; table.open(1), refused(Ground::Ended));

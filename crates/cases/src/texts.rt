@@ -88,12 +88,8 @@ fn refusals(rt: HostRuntime) -> Result<(), Fail> {
             "20 feed 133: the feed record is not an open, a text without a name, or a close, in four bytes",
         ),
     ];
-    let mut place = 0usize;
-    for (ground, line) in lines {
-        let refusal = ground.at(place);
-        let text = format!(in rt.alloc(); "{refusal}")?;
-        assert_eq!(rt; text.as_str(), line);
-        place = place.saturating_add(7);
+    for (index, (ground, line)) in lines.into_iter().enumerate() {
+        shows(&rt, ground.at(index.saturating_mul(7)), line)?;
     }
     Ok(())
 }
@@ -102,21 +98,20 @@ fn refusals(rt: HostRuntime) -> Result<(), Fail> {
 fn outline(rt: HostRuntime) -> Result<(), Fail> {
     let mut records = [Record::BLANK; 3];
     let mut table = RecordTable::new(&mut records);
-    let sentence = Summary::of(&table, 0);
-    let text = format!(in rt.alloc(); "{sentence}")?;
-    assert_eq!(rt; text.as_str(), "Read 0 records: 0 nodes, 0 elements open.");
+    shows(
+        &rt,
+        Summary::of(&table, 0),
+        "Read 0 records: 0 nodes, 0 elements open.",
+    )?;
     table.open(65534)?;
-    let sentence = Summary::of(&table, 1);
-    let text = format!(in rt.alloc(); "{sentence}")?;
-    assert_eq!(rt; text.as_str(), "Read 1 record: 1 node, 1 element open.");
+    shows(
+        &rt,
+        Summary::of(&table, 1),
+        "Read 1 record: 1 node, 1 element open.",
+    )?;
     table.text()?;
-    let line = Line::of(&table, 0)?;
-    let text = format!(in rt.alloc(); "{line}")?;
-    assert_eq!(rt; text.as_str(), "0 element 65534 open");
-    let line = Line::of(&table, 1)?;
-    let text = format!(in rt.alloc(); "{line}")?;
-    assert_eq!(rt; text.as_str(), "  1 text end 0");
-    Ok(())
+    shows(&rt, Line::of(&table, 0)?, "0 element 65534 open")?;
+    shows(&rt, Line::of(&table, 1)?, "  1 text end 0")
 }
 
 #[test]
@@ -126,9 +121,13 @@ fn named_lines(rt: HostRuntime) -> Result<(), Fail> {
     table.open(65534)?;
     table.text()?;
     table.open(2)?;
-    let mut names = NameList::empty();
-    named(&rt, Line::of(&table, 2)?, names, "  2 element 2 open")?;
-    names.load(b"book\nchapter\n")?;
+    named(
+        &rt,
+        Line::of(&table, 2)?,
+        NameList::empty(),
+        "  2 element 2 open",
+    )?;
+    let names = NameList::new(b"book\nchapter\n")?;
     named(&rt, Line::of(&table, 0)?, names, "0 element 65534 open")?;
     named(&rt, Line::of(&table, 1)?, names, "  1 text end 0")?;
     named(&rt, Line::of(&table, 2)?, names, "  2 element chapter open")
