@@ -20,7 +20,7 @@ begins b = class_of b == 1
 abbrev pub goes : ℕ → Bool
 goes b = begins b || class_of b == 2
 
--- a class by its number
+-- the number of a class
 abbrev pub code_of : ByteClass → ℕ
 code_of Other = 0
 code_of Begins = 1
