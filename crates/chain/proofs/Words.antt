@@ -1,9 +1,5 @@
 -- Each axis is the one that its word names, and no other word names it.
-use Rattle.std.proofs.Common.{◌≡◌, Bool, true, false, cond, List, [], ◌∷◌, Some, subst, sym, refl, ap, ◌∙◌, arith}
-use Rattle.std.specs.Iterator.{AlwaysYields}
-use Rattle.std.proofs.lemmas.Iterator.{YieldsList}
-use Rattle.std.proofs.iter.Yields.{listed}
-use Rattle.std.specs.Array.Iter.{array_into_iter_items, array_steps}
+use Rattle.std.proofs.Common.{◌≡◌, Bool, true, false, cond, List, [], ◌∷◌, Some, sym, refl, ap, ◌∙◌, arith}
 use Rattle.std.specs.Str.{bytes_eq}
 use Rattle.std.specs.List.{find}
 use Rattle.std.proofs.lemmas.Slice.Eq.{bytes_eq-Decides}
@@ -37,7 +33,3 @@ found_passes p (b ∷ rest) a e = go (found_passes p rest a) (p b) refl e
 
 pub word_only : WordsOnly
 word_only w a e = sym ((bytes_eq-Decides (word_of a) w).0 (found_passes (λ b. bytes_eq (word_of b) w) axes a e))
-
--- What going through the axes by value yields.
-pub axes_yield : (s : _) → array_into_iter_items s ≡ axes → YieldsList (array_steps {A = Axis} {n = 11}) (λ a. a) s axes
-axes_yield s e = record { runs = subst (AlwaysYields (array_steps {A = Axis} {n = 11}) (λ a. a) s) e (listed (array_steps {A = Axis} {n = 11}) (λ a. a) array_into_iter_items (λ s t p. p.0) (λ s x t p. p) s) }

@@ -17,7 +17,7 @@ const BLANK: Step = Step {
 
 // The steps of a path, first to last. The places past them hold blanks, so that chains with the same steps are the same.
 // Its callers copy a chain, and an inline vector (`arrayvec`) is not Copy, so the number of the steps stands beside the places.
-#[derive(Clone, Copy, PartialEq, Eq, Debug)]
+#[derive(Clone, Copy, Debug)]
 pub struct Chain {
     steps: [Step; MAX_STEPS],
     len: usize,

@@ -86,6 +86,7 @@ impl Axis {
     pub fn of_word(word: &[u8]) -> Option<Axis>
         ensures { result ≡ axis_of word.now }
     {
-        Axis::ALL.into_iter().find(|axis| axis.word() == word)
+        let axis = Axis::ALL.iter().find(|axis| axis.word() == word)?;
+        Some(*axis)
     }
 }
