@@ -53,7 +53,7 @@ fn may_follow(before: &[u8], count: usize, line: &[u8]) -> bool
     requires { count ≡ length (lines before.now) }
     ensures { result ≡ good (lines before.now) line.now }
 {
-    count < MOST_NAMES && is_name(line) && line.len() <= MAX_NAME_BYTES && !has_line(before, line)
+    count < MOST_NAMES && line.len() <= MAX_NAME_BYTES && is_name(line) && !has_line(before, line)
 }
 
 // The place of the first byte of the first bad line.
