@@ -67,7 +67,7 @@ module _ {names : List (List ℕ)} {text rest : List ℕ} {sofar : Result Chain 
       stuck [] n p = absurd (omega arith)
       stuck (b ∷ r) n p = no_separator h.items b r n
 
-nothing : (text : List ℕ) → length text ≡ 0 → scan begin text ≡ Err []
+pub nothing : (text : List ℕ) → length text ≡ 0 → scan begin text ≡ Err []
 nothing [] e = refl
 nothing (b ∷ s) e = absurd (omega arith)
 

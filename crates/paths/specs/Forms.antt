@@ -13,7 +13,7 @@ pub record StepPut (names : List (List ℕ)) (s : Step) (was form : List ℕ) : 
   pub is : form ≡ was ++ long_step names s
   pub near : length form ≤ length was + 53
 
--- The long form of steps; or a step has no name.
-abbrev pub Composed : List (List ℕ) → List Step → Result (ArrayVec ℕ) Refusal → Type 0
-Composed names ss (Ok form) = (first_unlisted names ss ≡ None) × (form.items ≡ long_form names ss)
-Composed names ss (Err e) = (k : ℕ) × (first_unlisted names ss ≡ Some k) × (e ≡ refusal UnknownName k)
+-- The form is the long form of steps; or a step has no name.
+abbrev pub Composed : List (List ℕ) → List Step → Result (Unit {0}) Refusal → ArrayVec ℕ → Type 0
+Composed names ss (Ok u) form = (first_unlisted names ss ≡ None) × (form.items ≡ long_form names ss)
+Composed names ss (Err e) form = (k : ℕ) × (first_unlisted names ss ≡ Some k) × (e ≡ refusal UnknownName k)

@@ -1,5 +1,5 @@
 // The long form of a chain: each step as /axis::test, and no steps as '/'.
-ghost use Rattle.std.specs.Prelude.{◌≡◌, ◌+◌, ◌≤◌, true, false, ◌++◌, length, take, MatchOption};
+ghost use Rattle.std.specs.Prelude.{◌≡◌, ◌+◌, ◌≤◌, true, false, [], ◌++◌, length, take, MatchOption};
 ghost use Rattle.arrayvec.specs.ArrayVec.{array_vec_len};
 ghost use Rattle.names.specs.Listed.{listed};
 ghost use Rattle.grammar.specs.LongForm.{long_test, unlisted, Writes, WritesListed, Rewrites};
@@ -51,27 +51,28 @@ fn put_step(names: &NameList<'_>, step: Step, form: &mut Form) -> Option<()>
     Some(())
 }
 
-// The long form of steps.
-fn compose(names: &NameList<'_>, steps: &[Step]) -> Result<Form, Refusal>
-    requires { length steps.now ≤ 15 }
-    ensures { Composed (listed names.now) steps.now result }
+// Appends the long form of steps to an empty form.
+fn compose(names: &NameList<'_>, steps: &[Step], form: &mut Form) -> Result<(), Refusal>
+    requires few { length steps.now ≤ 15 }
+    requires empty { form.old.items ≡ [] }
+    ensures { Composed (listed names.now) steps.now result form.new }
 {
-    let mut form = Form::new();
     if steps.is_empty() {
-        put(&mut form, b"/");
-        return Ok(form);
+        put(form, b"/");
+        return Ok(());
     }
     for (i, step) in steps.iter().enumerate() {
-        put_step(names, *step, &mut form).ok_or(Ground::UnknownName.at(i))?;
+        put_step(names, *step, form).ok_or(Ground::UnknownName.at(i))?;
     }
-    Ok(form)
+    Ok(())
 }
 
 // Writes a chain in its long form by a list of names, and answers the length. The bytes are the caller's, so nothing is allocated.
 pub fn write_by(names: &NameList<'_>, chain: &Chain, out: &mut [u8]) -> Result<usize, Refusal>
     ensures { Writes (listed names.now) chain.now out.old result out.new }
 {
-    let form = compose(names, chain.steps())?;
+    let mut form = Form::new();
+    compose(names, chain.steps(), &mut form)?;
     let len = form.len();
     if len > out.len() {
         return Err(Ground::TooSmall.at(0));
