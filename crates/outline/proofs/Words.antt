@@ -1,5 +1,5 @@
--- What the pieces of a line come to: a listed name is ASCII, so it is text, and the margin is padded by the format.
-use Rattle.std.proofs.Common.{◌≡◌, ℕ, zero, suc, ◌-◌, ◌<◌, ◌≤◌, Bool, true, false, cond, ◌||◌, ◌&&◌, eqb, ltb, leb, Option, List, [], ◌∷◌, ◌++◌, length, get_or, is_some, Some, None, decimal, replicate, codes, refl, ◌^◌, ◌==◌, unwrap_or, ap, subst, arith}
+-- What the pieces of a line come to: a listed name is ASCII, so it is text, and the margin is as wide as its levels.
+use Rattle.std.proofs.Common.{◌≡◌, ℕ, zero, suc, ◌+◌, ◌*◌, ◌/◌, ◌%◌, ◌-◌, ◌<◌, ◌≤◌, Bool, true, false, cond, ◌||◌, ◌&&◌, eqb, ltb, leb, Option, List, [], ◌∷◌, ◌++◌, length, get_or, is_some, Some, None, decimal, replicate, codes, refl, ◌∙◌, unwrap_or, ap, subst, arith}
 use Rattle.std.specs.List.{AllByRecursion}
 use Rattle.std.proofs.lemmas.Str.{IsUtf8-from_ascii}
 use Rattle.std.specs.Str.{IsUtf8}
@@ -12,9 +12,7 @@ use Rattle.names.specs.Lists.{name_of}
 use Rattle.names.specs.Listed.{listed}
 use Rattle.names.specs.declared.list.NameList.{NameList}
 use Rattle.names.proofs.Laws.{listed_proper}
-use Rattle.std.specs.List.{repeat}
-use Rattle.std.specs.Fmt.{format_spec, styled_text, padded, char_count, take_chars}
-use Rattle.std.proofs.lemmas.Str.{encode_ascii}
+use Rattle.std.proofs.lemmas.List.{replicate-append-replicate}
 use Rattle.document.specs.declared.Kind.TheVariants.{Element, Text}
 use Rattle.outline.specs.declared.line.Line.{Line}
 use Rattle.outline.specs.Lines.{label, margin, kind_words, line_words, shown_end, shown_line, shown_named_line}
@@ -54,19 +52,23 @@ label_none number =
     let none : (ltb 0 number && leb number 0) ≡ false = grind (arith, nat_tests) in
     ap (λ b. unwrap_or (cond {A = Option (List ℕ)} b (Some []) None) (decimal number)) none
 
--- `pointer` has the same three lines; the two crates share none
-blanks_repeated : (n : ℕ) → repeat {A = ℕ} n (32 ∷ []) ≡ replicate n 32
-blanks_repeated zero = refl
-blanks_repeated (suc n) = ap (λ l. 32 ∷ l) (blanks_repeated n)
+-- eight levels more
+pub eight_more : (n : ℕ) → replicate (16 * n) 32 ++ codes "                " ≡ replicate (16 * (n + 1)) 32
+eight_more n =
+    let more : 16 * n + 16 ≡ 16 * (n + 1) = omega arith in
+    replicate-append-replicate (16 * n) 16 32 ∙ ap (λ k. replicate k 32) more
 
--- the margin is padded by the format
-pub indented : (n : ℕ) → styled_text (format_spec 32 0 0 n (2 ^ 64 - 1)) [] ≡ replicate n 32
-unfolding padded char_count take_chars
-indented zero = refl
-indented (suc n) =
-    let some : (suc n == 0) ≡ false = grind (arith, nat_tests) in
-    let behind : suc n - 0 - 0 ≡ suc n = omega arith in
-    rw (encode_ascii 32 (omega arith), some, behind) (blanks_repeated (suc n))
+-- one level more
+pub level_more : (n : ℕ) → replicate (2 * n) 32 ++ codes "  " ≡ replicate (2 * (n + 1)) 32
+level_more n =
+    let more : 2 * n + 2 ≡ 2 * (n + 1) = omega arith in
+    replicate-append-replicate (2 * n) 2 32 ∙ ap (λ k. replicate k 32) more
+
+-- eights of levels, and the levels past them
+pub whole_margin : (eights past level : ℕ) → eights ≡ level / 8 → past ≡ level % 8 → replicate (16 * eights) 32 ++ replicate (2 * past) 32 ≡ margin level
+whole_margin eights past level e p =
+    let all : 16 * eights + 2 * past ≡ 2 * level = omega arith in
+    replicate-append-replicate (16 * eights) (2 * past) 32 ∙ ap (λ k. replicate k 32) all
 
 pub element_line : (names : List (List ℕ)) (l : Line) → l.kind ≡ Element
     → margin l.level ++ (decimal l.node ++ (codes " element " ++ (label names l.name ++ (codes " " ++ shown_end l.end)))) ≡ shown_named_line names l
