@@ -38,19 +38,15 @@ fn main(rt: HostRuntime) -> ExitCode {
 
 fn run(rt: &HostRuntime) -> Result<(), Failure> {
     let args = env::args(rt)?.collect::<Vec<String>>(rt.alloc())?;
-    let words = args
-        .iter()
-        .skip(1)
-        .map(String::as_str)
-        .collect::<Vec<&str>>(rt.alloc())?;
-    match words.as_slice() {
-        [] | ["help"] => println!(rt; "{USAGE}")?,
-        ["show"] => show::show(rt, NameList::empty())?,
-        ["show", "--names", file] => {
+    let mut words = args.iter().skip(1).map(String::as_str);
+    match [words.next(), words.next(), words.next(), words.next()] {
+        [None, ..] | [Some("help"), None, ..] => println!(rt; "{USAGE}")?,
+        [Some("show"), None, ..] => show::show(rt, NameList::empty())?,
+        [Some("show"), Some("--names"), Some(file), None] => {
             let bytes = list::read(rt, file)?;
             show::show(rt, list::load(rt, &bytes)?)?;
         }
-        ["path", file, text] => path::path(rt, file, text)?,
+        [Some("path"), Some(file), Some(text), None] => path::path(rt, file, text)?,
         _ => return Err(Failure::Usage),
     }
     Ok(())
