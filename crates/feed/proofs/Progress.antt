@@ -126,11 +126,11 @@ pub record SoFar {S : Type 0} (nodes : S → List Node) (room : S → ℕ) (was 
   pub same_room : room is ≡ room was
 
 pub finishes : {S : Type 0} {nodes : S → List Node} {room : S → ℕ} {was is : S} {bs rest : List ℕ} {count : ℕ} → WellFormed (nodes was)
-    → SoFar nodes room was bs count rest is → length rest ≡ 0 → FedTo nodes room was bs (length bs / 4) None is
-finishes {nodes = nodes} {room = room} {was = was} {is = is} {bs = bs} {rest = rest} {count = count} w f l =
+    → SoFar nodes room was bs count rest is → length rest ≡ 0 → (all : ℕ) → all ≡ length bs / 4 → FedTo nodes room was bs all None is
+finishes {nodes = nodes} {room = room} {was = was} {is = is} {bs = bs} {rest = rest} {count = count} w f l all e =
     let none : rest ≡ [] = nil_from_length rest l in
-    let all : count ≡ length bs / 4 = read_whole f.read none in
-    rw (← all) (record {
+    let same : all ≡ count = e ∙ sym (read_whole f.read none) in
+    rw same (record {
       feeds = record { rest = rest; read = f.read; ended = none };
       few = read_few w f.read;
       same_room = f.same_room;
@@ -151,11 +151,11 @@ module _ {S : Type 0} {nodes : S → List Node} {room : S → ℕ} {was is new :
     same_room = d.same_room ∙ f.same_room;
   })
 
-  pub stops : WellFormed (nodes was) → length part ≡ min 4 (length rest) → 0 < length rest → (e : Refusal) → r ≡ Err e → FedTo nodes room was bs i (Some e) new
-  stops w l some x h =
+  pub stops : WellFormed (nodes was) → length part ≡ min 4 (length rest) → 0 < length rest → (e : Refusal) → r ≡ Err e → (before : ℕ) → before ≡ i → FedTo nodes room was bs before (Some e) new
+  stops w l some x h before same_count =
       let same : nodes new ≡ nodes is = leaves ∙ refused_record (room was) (nodes is) count part x (answer ∙ h) in
       let read : Read (room was) (nodes was) bs count rest (nodes new) = rw same f.read in
-      rw at (record {
+      rw (same_count ∙ at) (record {
         feeds = record { rest = rest; read = read; ended = (some, rw (same, next_record rest part tail cut l) (answer ∙ h)) };
         few = read_few w read;
         same_room = d.same_room ∙ f.same_room;

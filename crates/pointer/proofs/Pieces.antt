@@ -6,7 +6,6 @@ use Rattle.std.proofs.lemmas.Str.{encode_ascii}
 use Rattle.std.proofs.lemmas.Bool.Decides.{nat_tests}
 use Rattle.pointer.specs.Pointed.{blanks}
 
--- `outline` has the same three lines; the two crates share none
 blanks_repeated : (n : ℕ) → repeat n (32 ∷ []) ≡ blanks n
 blanks_repeated zero = refl
 blanks_repeated (suc n) = ap (λ l. 32 ∷ l) (blanks_repeated n)

@@ -26,10 +26,10 @@ use Rattle.record_table.specs.declared.table.RecordTable.{RecordTable}
 use Rattle.record_table.specs.Records.{blank, nodes_of, written, Sound}
 use Rattle.record_table.specs.Tables.{table_nodes, table_room}
 
-length-nodes : (rs : List Record) (used : ℕ) → used ≤ length rs → length (nodes_of rs used) ≡ used
+pub length-nodes : (rs : List Record) (used : ℕ) → used ≤ length rs → length (nodes_of rs used) ≡ used
 length-nodes rs used h = length-map (take used rs) (λ r. r.node) ∙ length-take-le used rs h
 
-node_at_lem : (rs : List Record) (used n : ℕ) → used ≤ length rs → n < used → node_at (nodes_of rs used) n ≡ (get_or rs n blank).node
+pub node_at_lem : (rs : List Record) (used n : ℕ) → used ≤ length rs → n < used → node_at (nodes_of rs used) n ≡ (get_or rs n blank).node
 node_at_lem rs used n h l =
     let k : n < length (take used rs) = omega (arith, length-take-le used rs h) in
     get_or-map (λ r. r.node) (take used rs) n blank nowhere k ∙ ap (λ (r : Record). r.node) (get_or-take used rs n blank l)

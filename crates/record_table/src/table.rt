@@ -34,7 +34,7 @@ pub struct RecordTable<'a> {
     pub(crate) innermost: Option<u32>,
 
     // The records in use are those of a document that calls leave.
-    ghost sound: { Sound records.now used innermost } by { Prim.hlevel props },
+    pub ghost sound: { Sound records.now used innermost } by { Prim.hlevel props },
 }
 
 impl<'a> RecordTable<'a> {

@@ -15,7 +15,7 @@ pub returns-in-Err : goal.returns-in-Err
 returns-in-Err g c =
     let was = c.loop-index.invariant in
     let step = c.in-Some.ensures.steps in
-    stops was.1 step.1 c.in-Some.record.now _ step.0.1.0 c.feed_record.ensures (grown_well _ (g.met.D.Readable.grown _)) (omega (arith, step.0.1.1, was.0)) step.0.1.2 _ c.in-Err.is
+    stops was.1 step.1 c.in-Some.record.now _ step.0.1.0 c.feed_record.ensures (grown_well _ (g.met.D.Readable.grown _)) (omega (arith, step.0.1.1, was.0)) step.0.1.2 _ c.in-Err.is _ (omega arith)
 
 pub returns : goal.returns
-returns g c = finishes (grown_well _ (g.met.D.Readable.grown _)) c.loop-index.invariant.1 c.in-None.ensures.steps.0.1.0
+returns g c = finishes (grown_well _ (g.met.D.Readable.grown _)) c.loop-index.invariant.1 c.in-None.ensures.steps.0.1.0 _ (omega arith)
