@@ -2,7 +2,7 @@
 #![tactic(auto)]
 
 ghost use Rattle.std.specs.Prelude.{◌≡◌, take, drop, Some};
-ghost use Rattle.pointer.specs.Pointed.{column_of, columns, dots, pointed, CaretBelow, LinesFit};
+ghost use Rattle.pointer.specs.Pointed.{column_of, columns, blanks, dots, pointed, CaretBelow, LinesFit};
 
 use std::fmt;
 
@@ -22,16 +22,15 @@ pub struct Pointer<'a> {
 impl fmt::Display for Pointer<'_> {
     ghost output = { λ p. Some (pointed p.text.now p.place) };
 
-    #[tactic(auto, using(crate::proofs::Pieces::caret_last, crate::proofs::Pieces::joined))]
+    #[tactic(auto, using(crate::proofs::Pieces::joined))]
     fn fmt<W: fmt::Write>(&self, f: &mut fmt::Formatter<W>) -> fmt::Result {
         let start = self.place.saturating_sub(MOST_BEFORE);
         let rest = tail(self.text, start);
         let before = dots(start > 0);
         let line = Columns(front(rest, MOST_SHOWN));
         let after = dots(rest.len() > MOST_SHOWN);
-        // The caret stands in the last of so many columns.
-        let width = before.len() + (self.place - start) + 1;
-        write!(f, "{before}{line}{after}\n{:>width$}", "^")
+        let blanks = Blanks(before.len() + (self.place - start));
+        write!(f, "{before}{line}{after}\n{blanks}^")
     }
 }
 
@@ -78,6 +77,24 @@ fn column(byte: u8) -> char
     match byte {
         b' '..=b'~' => char::from(byte),
         _ => '?',
+    }
+}
+
+// As many blanks. The width of a format pads them too, and takes longer where they are few.
+#[derive(Clone, Copy)]
+struct Blanks(usize);
+
+impl fmt::Display for Blanks {
+    ghost output = { λ b. Some (blanks b.0) };
+
+    fn fmt<W: fmt::Write>(&self, f: &mut fmt::Formatter<W>) -> fmt::Result {
+        for _eight in 0..self.0 / 8 {
+            f.write_str("        ")?;
+        }
+        for _blank in 0..self.0 % 8 {
+            f.write_str(" ")?;
+        }
+        Ok(())
     }
 }
 
